@@ -6,3 +6,4 @@ pub mod Slots
 pub mod Loops
 pub mod Traces
 pub mod Served
+pub mod Emptying

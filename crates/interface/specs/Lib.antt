@@ -4,3 +4,4 @@ pub mod History
 pub mod Coded
 pub mod Codec
 pub mod Slots
+pub mod Emptied
