@@ -302,7 +302,7 @@ module _ {X : Type 0} (key : X → ℕ) where
     held-cons n xs true ih = sym (lt-ltb _ _ (omega arith))
     held-cons n xs false ih = ih ∙ suc-ltb (place (has-in key n) xs) (length xs)
 
-    held-at : (n : ℕ) (xs : List X) → any (has-in key n) xs ≡ ltb (place (has-in key n) xs) (length xs)
+    pub held-at : (n : ℕ) (xs : List X) → any (has-in key n) xs ≡ ltb (place (has-in key n) xs) (length xs)
     held-at n [] = refl
     held-at n (x ∷ xs) = held-cons n xs (has-in key n x) (held-at n xs)
 

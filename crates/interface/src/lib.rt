@@ -3,7 +3,7 @@ ghost use mathlib.Core.Path.{_≡_};
 ghost use mathlib.Core.List.{List};
 ghost use Prim.Native.Nat.{ℕ, _^_, _<_};
 ghost use Rattle.std.specs.declared.option.Option.{Option as Optional};
-ghost use Rattle.interface.specs.Meaning.{Meaning, Held, Call, after, number, refused, first, left-of, take-refusal, step-refusal};
+ghost use Rattle.interface.specs.Meaning.{Meaning, Held, Call, after, number, refused, first, left-of, in-range, take-refusal, step-refusal};
 ghost use Rattle.interface.specs.Lawful.{Lawful};
 ghost use Rattle.interface.specs.declared.Event.{Event as ReadyEvent};
 
@@ -20,6 +20,15 @@ pub struct Request {
     pub domain: u8,
     pub bank: u8,
     pub kind: Kind,
+}
+
+impl Request {
+    // Slot at most 511, domain and bank at most 7.
+    pub fn in_range(self) -> bool
+        ensures { λ r. ⌜ r ≡ in-range self ⌝ }
+    {
+        self.slot < 512 && self.domain < 8 && self.bank < 8
+    }
 }
 
 // What a controller reports of a slot: its request went to the card, and the card has finished it.
