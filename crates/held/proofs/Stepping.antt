@@ -318,3 +318,13 @@ stepped-punctual hs ls es t = ⊎-elim moved sent
     sent m =
         subst (λ l. Punctual (map reading-of l) es) (sym (m .3))
         (punctual-issued (m .0) (map later hs) (m .1) es t (m .2) (λ n k. ap (any (ends n)) (m .4) ∙ ends-before n (dones (map later hs)) (Issue (m .1 .request .slot) ∷ []) k))
+
+-- ---- how many Dones there are
+
+length-dones-at : (n : ℕ) (ds : List Event) (b : Bool) (k : ℕ) → length ds ≤ k → length (cond b (Done n ∷ ds) ds) ≤ suc k
+length-dones-at n ds true k h = omega arith
+length-dones-at n ds false k h = omega arith
+
+pub length-dones : (hs : List Entry) → length (dones hs) ≤ length hs
+length-dones [] = omega arith
+length-dones (h ∷ hs) = length-dones-at (h .request .slot) (dones hs) (expired h) (length hs) (length-dones hs)

@@ -89,12 +89,12 @@ dones = dones-of key expired
 
 -- ---- whose requests may be issued: a class of requests
 
-abbrev pub anyone : Request → Bool
-anyone q = true
-
 abbrev pub admits : Whose → Request → Bool
 admits Anyone q = true
 admits (Domain d) q = eqb (q .domain) d
+
+abbrev pub anyone : Request → Bool
+anyone = admits Anyone
 
 -- an entry of the class that waits
 abbrev pub candidate : (Request → Bool) → Entry → Bool

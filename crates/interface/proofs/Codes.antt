@@ -11,11 +11,11 @@ use Rattle.interface.specs.declared.Request.{Request}
 use Rattle.interface.specs.declared.Event.{Event}
 use Rattle.std.specs.declared.option.Option.{Option}
 
-accepted-ap : {S U : Type 0} (f : S → U) (v : Option ℕ) (a b : S) → accepted v (f a) (f b) ≡ f (accepted v a b)
+pub accepted-ap : {S U : Type 0} (f : S → U) (v : Option ℕ) (a b : S) → accepted v (f a) (f b) ≡ f (accepted v a b)
 accepted-ap f None a b = refl
 accepted-ap f (Some x) a b = refl
 
-cond-ap : {S U : Type 0} (f : S → U) (v : Bool) (a b : S) → cond v (f a) (f b) ≡ f (cond v a b)
+pub cond-ap : {S U : Type 0} (f : S → U) (v : Bool) (a b : S) → cond v (f a) (f b) ≡ f (cond v a b)
 cond-ap f true a b = refl
 cond-ap f false a b = refl
 
