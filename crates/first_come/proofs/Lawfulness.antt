@@ -18,14 +18,14 @@ use Rattle.interface.specs.declared.Event.the-variants.{Issue, Done}
 use Rattle.interface.proofs.Codes.{lawful-coded}
 use Rattle.interface.proofs.Runs.{reached-keeps}
 use Rattle.interface.proofs.Takes.{take-ok}
-use Rattle.interface.proofs.Slots.{Apart, apart-append, apart-gone, length-gone, some-entries, collected-held, map-append}
+use Rattle.interface.proofs.Slots.{Apart, apart-append, apart-dropped, length-dropped, some-entries, collected-held, map-append}
 use Rattle.held.specs.declared.entries.Stage.{Stage}
 use Rattle.held.specs.declared.entries.Stage.the-variants.{Waiting, Issued}
 use Rattle.held.specs.declared.entries.Entry.{Entry}
 use Rattle.held.specs.Entries.{later, longest-delay, key, dones, anyone, next-of, issue-next, reading-of, new-entry}
 use Rattle.held.specs.Rows.{Rows, passed, issue-of, issue-oldest, first-out}
 use Rattle.held.proofs.Stepping.{Stepped, Ample, apart-later, apart-issued, length-issued, length-dones, stepped-held, stepped-proper, stepped-punctual}
-use Rattle.held.proofs.Spans.{times, times-more, Timely, timely-later, timely-append, timely-gone, timely-none, timely-issued}
+use Rattle.held.proofs.Spans.{times, times-more, Timely, timely-later, timely-append, timely-dropped, timely-none, timely-issued}
 use Rattle.first_come.specs.declared.gaps.Gaps.{Gaps}
 use Rattle.first_come.specs.Gaps.{greatest-gap, no-gaps, gaps-passed, allows, with-issue}
 use Rattle.first_come.specs.State.{State, first-come-span, beginning, elapsed, issue-if, issue, state-meaning, state-codes, state-of, state-back, first-come-meaning}
@@ -68,9 +68,9 @@ pub sound-collect : (es : List Entry) (evs : List Event) (g : Gaps) → Sound (r
 sound-collect es [] g f = record { few = f .few; apart = f .apart; w = f .w; low = f .low; high = f .high; gaps = f .gaps; timely = f .timely }
 sound-collect es (Issue n ∷ evs) g f = record { few = f .few; apart = f .apart; w = f .w; low = f .low; high = f .high; gaps = f .gaps; timely = f .timely }
 sound-collect es (Done n ∷ evs) g f =
-    let l = length-gone key n es in
+    let l = length-dropped key n es in
     let k = f .few in
-    record { few = omega arith; apart = apart-gone key n es (f .apart); w = f .w; low = f .low; high = f .high; gaps = f .gaps; timely = timely-gone greatest-gap anyone es n (f .w) (f .timely) }
+    record { few = omega arith; apart = apart-dropped key n es (f .apart); w = f .w; low = f .low; high = f .high; gaps = f .gaps; timely = timely-dropped greatest-gap anyone es n (f .w) (f .timely) }
 
 -- ---- a step: the table passes, and the oldest that waits may be issued
 

@@ -1,13 +1,13 @@
 -- The laws of first-come over whole histories.
 use mathlib.Core.Path.{_≡_}
-use mathlib.Core.List.{List, [], _∷_, _++_}
+use mathlib.Core.List.{List, [], _∷_}
 use mathlib.Core.Bool.{cond}
-use Prim.Native.Nat.{ℕ, _+_, _≤_, max, zero, suc}
+use Prim.Native.Nat.{ℕ, _+_, _≤_, max}
 use lib.Dec.{eqb}
 use Rattle.interface.specs.Meaning.{Meaning, Call}
-use Rattle.interface.specs.History.{Issuance, Occurrence, Serves, history, issuances}
+use Rattle.interface.specs.History.{Issuance, Serves, history, issuances}
 use Rattle.interface.specs.declared.Request.{Request}
-use Rattle.held.specs.Entries.{done-delay}
+use Rattle.held.specs.Delays.{dones-before}
 use Rattle.first_come.specs.Gaps.{gap, bank-gap}
 
 -- the least steps from the issue of one request to that of a later one
@@ -23,16 +23,6 @@ Kept (i ∷ is) q t = (i .at + gap-between (i .request) q ≤ t) × Kept is q t
 -- in which it keeps its gap to every earlier issue.
 abbrev pub First-come : {S : Type 0} → Meaning S → Type 0
 First-come m = Serves m Kept
-
--- the Dones of step t: of the requests that were issued their delay before, in the order of issue
-abbrev pub dones-at : ℕ → List Issuance → List Occurrence
-dones-at t [] = []
-dones-at t (i ∷ is) = cond (eqb (i .at + done-delay (i .request .kind)) t) (record { slot = i .request .slot; at = t } ∷ dones-at t is) (dones-at t is)
-
--- the Dones of the first n steps
-abbrev pub dones-before : ℕ → List Issuance → List Occurrence
-dones-before zero is = []
-dones-before (suc t) is = dones-before t is ++ dones-at t is
 
 -- After a reset and any list of calls: each Done comes its delay after the issue, and those of one step in the order of issue.
 abbrev pub Done-in-time : {S : Type 0} → Meaning S → Type 0

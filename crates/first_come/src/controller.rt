@@ -2,6 +2,7 @@
 ghost use mathlib.Core.Path.{_≡_};
 ghost use Rattle.std.specs.Vec.{made};
 ghost use Rattle.interface.specs.Meaning.{left-of};
+ghost use Rattle.first_come.specs.Laws.{First-come, Done-in-time};
 ghost use Rattle.first_come.specs.State.{view, beginning, issue, first-come-meaning, first-come-state};
 use crate::gaps::Gaps;
 use held::Table;
@@ -24,8 +25,12 @@ pub struct FirstCome {
 }
 
 impl FirstCome {
+    // A controller in its beginning state, unless memory is wanting. In every history of calls to one, requests are issued in
+    // the order of taking, each in the first step that its gaps allow, and are done when their delay has passed.
     pub fn new(heap: Global) -> Result<FirstCome, AllocError>
-        ensures { λ r. ⌜ made r (λ c. view c ≡ beginning) ⌝ }
+        ensures made { λ r. ⌜ made r (λ c. view c ≡ beginning) ⌝ }
+        ensures first_come { λ _. ⌜ First-come first-come-meaning ⌝ }
+        ensures done_in_time { λ _. ⌜ Done-in-time first-come-meaning ⌝ }
     {
         let table = Table::new(heap)?;
         let gaps = Gaps::new();

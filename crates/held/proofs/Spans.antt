@@ -87,13 +87,13 @@ module _ (period : ℕ) (k : Request → Bool) where
   next-least false w Waiting = omega arith
   next-least b w (Issued n) = omega arith
 
-  timely-gone-at : (w m : ℕ) (h : Entry) (hs : List Entry) (b : Bool) → ((w′ : ℕ) → Timely w′ hs → Timely w′ (dropped key m hs)) → Timely w (h ∷ hs) → Timely w (cond b hs (h ∷ dropped key m hs))
-  timely-gone-at w m h hs true ih t = timely-less hs w (next (k (h .request)) w (h .stage)) (next-least (k (h .request)) w (h .stage)) (t .1)
-  timely-gone-at w m h hs false ih t = (t .0, ih (next (k (h .request)) w (h .stage)) (t .1))
+  timely-dropped-at : (w m : ℕ) (h : Entry) (hs : List Entry) (b : Bool) → ((w′ : ℕ) → Timely w′ hs → Timely w′ (dropped key m hs)) → Timely w (h ∷ hs) → Timely w (cond b hs (h ∷ dropped key m hs))
+  timely-dropped-at w m h hs true ih t = timely-less hs w (next (k (h .request)) w (h .stage)) (next-least (k (h .request)) w (h .stage)) (t .1)
+  timely-dropped-at w m h hs false ih t = (t .0, ih (next (k (h .request)) w (h .stage)) (t .1))
 
-  pub timely-gone : (hs : List Entry) (m w : ℕ) → Timely w hs → Timely w (dropped key m hs)
-  timely-gone [] m w t = tt
-  timely-gone (h ∷ hs) m w t = timely-gone-at w m h hs (has m h) (timely-gone hs m) t
+  pub timely-dropped : (hs : List Entry) (m w : ℕ) → Timely w hs → Timely w (dropped key m hs)
+  timely-dropped [] m w t = tt
+  timely-dropped (h ∷ hs) m w t = timely-dropped-at w m h hs (has m h) (timely-dropped hs m) t
 
   none-at : (b : Bool) (u v : ℕ) (q : Request) (s : Stage) (l : ℕ) (hs : List Entry) → k q ≡ b → (next-of k hs ≡ None → Timely v hs → Timely u hs)
       → next-of k (record { request = q; stage = s; left = l } ∷ hs) ≡ None → InTime b v s l → Timely (next b v s) hs → InTime b u s l × Timely (next b u s) hs

@@ -29,11 +29,11 @@ module _ (May : List Issuance → Request → ℕ → Type 0) where
   pending-take (j ∷ ks) [] ss n k s = refl
   pending-take (j ∷ ks) (i ∷ is) ss n k s = pending-take ks is (ss ++ (record { request = j .request; at = i .at } ∷ [])) n k (s .3)
 
-  pub sent-take : (ks : List Taking) (is : List Occurrence) (ss : List Issuance) (n : ℕ) (k : Taking) → Served May ss ks is n → issuances ss (ks ++ (k ∷ [])) is ≡ issuances ss ks is
-  sent-take [] [] ss n k s = refl
-  sent-take [] (i ∷ is) ss n k s = absurd s
-  sent-take (j ∷ ks) [] ss n k s = refl
-  sent-take (j ∷ ks) (i ∷ is) ss n k s = sent-take ks is (ss ++ (record { request = j .request; at = i .at } ∷ [])) n k (s .3)
+  pub issuances-take : (ks : List Taking) (is : List Occurrence) (ss : List Issuance) (n : ℕ) (k : Taking) → Served May ss ks is n → issuances ss (ks ++ (k ∷ [])) is ≡ issuances ss ks is
+  issuances-take [] [] ss n k s = refl
+  issuances-take [] (i ∷ is) ss n k s = absurd s
+  issuances-take (j ∷ ks) [] ss n k s = refl
+  issuances-take (j ∷ ks) (i ∷ is) ss n k s = issuances-take ks is (ss ++ (record { request = j .request; at = i .at } ∷ [])) n k (s .3)
 
   -- a step without an issue
 
@@ -83,12 +83,12 @@ module _ (May : List Issuance → Request → ℕ → Type 0) where
       nothing (k ∷ ks) = refl
   pending-issue (j ∷ ks) (x ∷ is) k rest i p = pending-issue ks is k rest i p
 
-  pub sent-issue : (ks : List Taking) (is : List Occurrence) (ss : List Issuance) (k : Taking) (rest : List Taking) (i : Occurrence) → pending ks is ≡ k ∷ rest
+  pub issuances-issue : (ks : List Taking) (is : List Occurrence) (ss : List Issuance) (k : Taking) (rest : List Taking) (i : Occurrence) → pending ks is ≡ k ∷ rest
       → issuances ss ks (is ++ (i ∷ [])) ≡ issuances ss ks is ++ (record { request = k .request; at = i .at } ∷ [])
-  sent-issue [] is ss k rest i p = let z : _≡_ {A = ℕ} 0 1 = cc in absurd (omega arith)
-  sent-issue (j ∷ ks) [] ss k rest i p = let jk : j ≡ k = cc in nothing ks (ss ++ (record { request = j .request; at = i .at } ∷ [])) ∙ ap (λ (x : Taking). ss ++ (record { request = x .request; at = i .at } ∷ [])) jk
+  issuances-issue [] is ss k rest i p = let z : _≡_ {A = ℕ} 0 1 = cc in absurd (omega arith)
+  issuances-issue (j ∷ ks) [] ss k rest i p = let jk : j ≡ k = cc in nothing ks (ss ++ (record { request = j .request; at = i .at } ∷ [])) ∙ ap (λ (x : Taking). ss ++ (record { request = x .request; at = i .at } ∷ [])) jk
     where
       nothing : (ks : List Taking) (ss : List Issuance) → issuances ss ks [] ≡ ss
       nothing [] ss = refl
       nothing (k ∷ ks) ss = refl
-  sent-issue (j ∷ ks) (x ∷ is) ss k rest i p = sent-issue ks is (ss ++ (record { request = j .request; at = x .at } ∷ [])) k rest i p
+  issuances-issue (j ∷ ks) (x ∷ is) ss k rest i p = issuances-issue ks is (ss ++ (record { request = j .request; at = x .at } ∷ [])) k rest i p

@@ -117,21 +117,21 @@ module _ {X : Type 0} (key : X → ℕ) where
   apart-map f e [] a = tt
   apart-map f e (x ∷ xs) a = (ap (λ k. any (has-in key k) (map f xs)) (e x) ∙ some-map f e (key x) xs ∙ a .0, apart-map f e xs (a .1))
 
-  some-gone-at : (n m : ℕ) (x : X) (xs : List X) (b : Bool) → (has-in key n x || any (has-in key n) xs) ≡ false → any (has-in key n) (dropped key m xs) ≡ false → any (has-in key n) (cond b xs (x ∷ dropped key m xs)) ≡ false
-  some-gone-at n m x xs true e ih = or-false (has-in key n x) _ e .1
-  some-gone-at n m x xs false e ih = or-both (has-in key n x) _ (or-false (has-in key n x) _ e .0) ih
+  some-dropped-at : (n m : ℕ) (x : X) (xs : List X) (b : Bool) → (has-in key n x || any (has-in key n) xs) ≡ false → any (has-in key n) (dropped key m xs) ≡ false → any (has-in key n) (cond b xs (x ∷ dropped key m xs)) ≡ false
+  some-dropped-at n m x xs true e ih = or-false (has-in key n x) _ e .1
+  some-dropped-at n m x xs false e ih = or-both (has-in key n x) _ (or-false (has-in key n x) _ e .0) ih
 
-  pub some-gone : (n m : ℕ) (xs : List X) → any (has-in key n) xs ≡ false → any (has-in key n) (dropped key m xs) ≡ false
-  some-gone n m [] e = refl
-  some-gone n m (x ∷ xs) e = some-gone-at n m x xs (has-in key m x) e (some-gone n m xs (or-false (has-in key n x) _ e .1))
+  pub some-dropped : (n m : ℕ) (xs : List X) → any (has-in key n) xs ≡ false → any (has-in key n) (dropped key m xs) ≡ false
+  some-dropped n m [] e = refl
+  some-dropped n m (x ∷ xs) e = some-dropped-at n m x xs (has-in key m x) e (some-dropped n m xs (or-false (has-in key n x) _ e .1))
 
-  apart-gone-at : (m : ℕ) (x : X) (xs : List X) (b : Bool) → Apart (x ∷ xs) → Apart (dropped key m xs) → Apart (cond b xs (x ∷ dropped key m xs))
-  apart-gone-at m x xs true a l = a .1
-  apart-gone-at m x xs false a l = (some-gone (key x) m xs (a .0), l)
+  apart-dropped-at : (m : ℕ) (x : X) (xs : List X) (b : Bool) → Apart (x ∷ xs) → Apart (dropped key m xs) → Apart (cond b xs (x ∷ dropped key m xs))
+  apart-dropped-at m x xs true a l = a .1
+  apart-dropped-at m x xs false a l = (some-dropped (key x) m xs (a .0), l)
 
-  pub apart-gone : (m : ℕ) (xs : List X) → Apart xs → Apart (dropped key m xs)
-  apart-gone m [] a = tt
-  apart-gone m (x ∷ xs) a = apart-gone-at m x xs (has-in key m x) a (apart-gone m xs (a .1))
+  pub apart-dropped : (m : ℕ) (xs : List X) → Apart xs → Apart (dropped key m xs)
+  apart-dropped m [] a = tt
+  apart-dropped m (x ∷ xs) a = apart-dropped-at m x xs (has-in key m x) a (apart-dropped m xs (a .1))
 
   pub some-append : (n : ℕ) (xs : List X) (x : X) → any (has-in key n) xs ≡ false → has-in key n x ≡ false → any (has-in key n) (xs ++ (x ∷ [])) ≡ false
   some-append n [] x e k = or-both (has-in key n x) false k refl
@@ -143,35 +143,35 @@ module _ {X : Type 0} (key : X → ℕ) where
       let k = or-false (has-in key (key x) y) _ e in
       (some-append (key y) xs x (a .0) (eqb-comm (key x) (key y) ∙ k .0), apart-append xs x (a .1) (k .1))
 
-  length-gone-at : (m : ℕ) (x : X) (xs : List X) (b : Bool) → length (dropped key m xs) ≤ length xs → length (cond b xs (x ∷ dropped key m xs)) ≤ suc (length xs)
-  length-gone-at m x xs true e = omega arith
-  length-gone-at m x xs false e = omega arith
+  length-dropped-at : (m : ℕ) (x : X) (xs : List X) (b : Bool) → length (dropped key m xs) ≤ length xs → length (cond b xs (x ∷ dropped key m xs)) ≤ suc (length xs)
+  length-dropped-at m x xs true e = omega arith
+  length-dropped-at m x xs false e = omega arith
 
-  pub length-gone : (m : ℕ) (xs : List X) → length (dropped key m xs) ≤ length xs
-  length-gone m [] = omega arith
-  length-gone m (x ∷ xs) = length-gone-at m x xs (has-in key m x) (length-gone m xs)
+  pub length-dropped : (m : ℕ) (xs : List X) → length (dropped key m xs) ≤ length xs
+  length-dropped m [] = omega arith
+  length-dropped m (x ∷ xs) = length-dropped-at m x xs (has-in key m x) (length-dropped m xs)
 
   pub some-self : (n : ℕ) (xs : List X) (m : ℕ) → any (has-in key m) xs ≡ false → any (has-in key n) xs ≡ true → eqb m n ≡ false
   some-self n xs m a b = ne-eqb m n (λ e. both-ways (any (has-in key n) xs) (ap (λ k. any (has-in key k) xs) (sym e) ∙ a) b)
 
   -- ---- the place of a slot
 
-  gone-cons : (n : ℕ) (x : X) (xs : List X) (b : Bool) → cond b 0 (suc (place (has-in key n) xs)) < suc (length xs) → (place (has-in key n) xs < length xs → removed xs (place (has-in key n) xs) ≡ dropped key n xs)
+  dropped-cons : (n : ℕ) (x : X) (xs : List X) (b : Bool) → cond b 0 (suc (place (has-in key n) xs)) < suc (length xs) → (place (has-in key n) xs < length xs → removed xs (place (has-in key n) xs) ≡ dropped key n xs)
       → removed (x ∷ xs) (cond b 0 (suc (place (has-in key n) xs))) ≡ cond b xs (x ∷ dropped key n xs)
-  gone-cons n x xs true h ih = refl
-  gone-cons n x xs false h ih = ap (λ l. x ∷ l) (ih (omega arith))
+  dropped-cons n x xs true h ih = refl
+  dropped-cons n x xs false h ih = ap (λ l. x ∷ l) (ih (omega arith))
 
-  gone-keeps : (n : ℕ) (x : X) (xs : List X) (b : Bool) → suc (length xs) ≤ cond b 0 (suc (place (has-in key n) xs)) → (length xs ≤ place (has-in key n) xs → dropped key n xs ≡ xs) → cond b xs (x ∷ dropped key n xs) ≡ x ∷ xs
-  gone-keeps n x xs true h ih = absurd (omega arith)
-  gone-keeps n x xs false h ih = ap (λ l. x ∷ l) (ih (omega arith))
+  dropped-keeps : (n : ℕ) (x : X) (xs : List X) (b : Bool) → suc (length xs) ≤ cond b 0 (suc (place (has-in key n) xs)) → (length xs ≤ place (has-in key n) xs → dropped key n xs ≡ xs) → cond b xs (x ∷ dropped key n xs) ≡ x ∷ xs
+  dropped-keeps n x xs true h ih = absurd (omega arith)
+  dropped-keeps n x xs false h ih = ap (λ l. x ∷ l) (ih (omega arith))
 
-  pub gone-there : (n : ℕ) (xs : List X) → place (has-in key n) xs < length xs → removed xs (place (has-in key n) xs) ≡ dropped key n xs
-  gone-there n [] h = absurd (omega arith)
-  gone-there n (x ∷ xs) h = gone-cons n x xs (has-in key n x) h (gone-there n xs)
+  pub dropped-there : (n : ℕ) (xs : List X) → place (has-in key n) xs < length xs → removed xs (place (has-in key n) xs) ≡ dropped key n xs
+  dropped-there n [] h = absurd (omega arith)
+  dropped-there n (x ∷ xs) h = dropped-cons n x xs (has-in key n x) h (dropped-there n xs)
 
-  pub gone-not : (n : ℕ) (xs : List X) → length xs ≤ place (has-in key n) xs → dropped key n xs ≡ xs
-  gone-not n [] h = refl
-  gone-not n (x ∷ xs) h = gone-keeps n x xs (has-in key n x) h (gone-not n xs)
+  pub dropped-not : (n : ℕ) (xs : List X) → length xs ≤ place (has-in key n) xs → dropped key n xs ≡ xs
+  dropped-not n [] h = refl
+  dropped-not n (x ∷ xs) h = dropped-keeps n x xs (has-in key n x) h (dropped-not n xs)
 
   -- ---- a Done for each that passes a test
 
@@ -213,13 +213,13 @@ module _ {X : Type 0} (key : X → ℕ) where
 
   -- ---- those that do not pass a test
 
-  some-still-at : (n : ℕ) (x : X) (us : List X) (b : Bool) (t : Bool) → (has-in key n x || t) ≡ false → (t ≡ false → any (has-in key n) us ≡ false) → any (has-in key n) (cond b us (x ∷ us)) ≡ false
-  some-still-at n x us true t e ih = ih (or-false (has-in key n x) t e .1)
-  some-still-at n x us false t e ih = or-both (has-in key n x) _ (or-false (has-in key n x) t e .0) (ih (or-false (has-in key n x) t e .1))
+  some-failing-at : (n : ℕ) (x : X) (us : List X) (b : Bool) (t : Bool) → (has-in key n x || t) ≡ false → (t ≡ false → any (has-in key n) us ≡ false) → any (has-in key n) (cond b us (x ∷ us)) ≡ false
+  some-failing-at n x us true t e ih = ih (or-false (has-in key n x) t e .1)
+  some-failing-at n x us false t e ih = or-both (has-in key n x) _ (or-false (has-in key n x) t e .0) (ih (or-false (has-in key n x) t e .1))
 
-  pub some-still : (p : X → Bool) (n : ℕ) (xs : List X) → any (has-in key n) xs ≡ false → any (has-in key n) (failing p xs) ≡ false
-  some-still p n [] e = refl
-  some-still p n (x ∷ xs) e = some-still-at n x (failing p xs) (p x) (any (has-in key n) xs) e (some-still p n xs)
+  pub some-failing : (p : X → Bool) (n : ℕ) (xs : List X) → any (has-in key n) xs ≡ false → any (has-in key n) (failing p xs) ≡ false
+  some-failing p n [] e = refl
+  some-failing p n (x ∷ xs) e = some-failing-at n x (failing p xs) (p x) (any (has-in key n) xs) e (some-failing p n xs)
 
   -- ---- the Dones that are ready name things that pass a test
 
@@ -231,25 +231,25 @@ module _ {X : Type 0} (key : X → ℕ) where
   Traced p (Issue n ∷ es) xs = Traced p es xs
   Traced p (Done n ∷ es) xs = (marked p n xs ≡ true) × Traced p es (dropped key n xs)
 
-  told-cons : (p : X → Bool) (es : List Event) (x : X) (xs : List X) → any (ends (key x)) es ≡ false → Traced p es xs → Traced p es (x ∷ xs)
-  told-cons p [] x xs e t = tt
-  told-cons p (Issue n ∷ es) x xs e t = told-cons p es x xs e t
-  told-cons p (Done n ∷ es) x xs e t =
+  traced-cons : (p : X → Bool) (es : List Event) (x : X) (xs : List X) → any (ends (key x)) es ≡ false → Traced p es xs → Traced p es (x ∷ xs)
+  traced-cons p [] x xs e t = tt
+  traced-cons p (Issue n ∷ es) x xs e t = traced-cons p es x xs e t
+  traced-cons p (Done n ∷ es) x xs e t =
       let j = or-false (eqb n (key x)) _ e in (
         or-true (has-in key n x && p x) _ (t .0),
-        subst (λ b. Traced p es (cond b xs (x ∷ dropped key n xs))) (sym (eqb-comm (key x) n ∙ j .0)) (told-cons p es x (dropped key n xs) (j .1) (t .1)),
+        subst (λ b. Traced p es (cond b xs (x ∷ dropped key n xs))) (sym (eqb-comm (key x) n ∙ j .0)) (traced-cons p es x (dropped key n xs) (j .1) (t .1)),
       )
 
-  told-dones-at : (p q : X → Bool) (x : X) (xs : List X) (t : Bool) → (t ≡ true → p x ≡ true) → any (has-in key (key x)) xs ≡ false → Traced p (dones-of key q xs) xs → Traced p (cond t (Done (key x) ∷ dones-of key q xs) (dones-of key q xs)) (x ∷ xs)
-  told-dones-at p q x xs true e a ih = (
+  traced-dones-at : (p q : X → Bool) (x : X) (xs : List X) (t : Bool) → (t ≡ true → p x ≡ true) → any (has-in key (key x)) xs ≡ false → Traced p (dones-of key q xs) xs → Traced p (cond t (Done (key x) ∷ dones-of key q xs) (dones-of key q xs)) (x ∷ xs)
+  traced-dones-at p q x xs true e a ih = (
     or-left (has-in key (key x) x && p x) _ (ap (λ b. b && p x) (same (key x)) ∙ e refl),
     subst (λ b. Traced p (dones-of key q xs) (cond b xs (x ∷ dropped key (key x) xs))) (sym (same (key x))) ih,
   )
-  told-dones-at p q x xs false e a ih = told-cons p (dones-of key q xs) x xs (ends-none q (key x) xs a) ih
+  traced-dones-at p q x xs false e a ih = traced-cons p (dones-of key q xs) x xs (ends-none q (key x) xs a) ih
 
-  pub told-dones : (p q : X → Bool) → ((x : X) → q x ≡ true → p x ≡ true) → (xs : List X) → Apart xs → Traced p (dones-of key q xs) xs
-  told-dones p q i [] a = tt
-  told-dones p q i (x ∷ xs) a = told-dones-at p q x xs (q x) (i x) (a .0) (told-dones p q i xs (a .1))
+  pub traced-dones : (p q : X → Bool) → ((x : X) → q x ≡ true → p x ≡ true) → (xs : List X) → Apart xs → Traced p (dones-of key q xs) xs
+  traced-dones p q i [] a = tt
+  traced-dones p q i (x ∷ xs) a = traced-dones-at p q x xs (q x) (i x) (a .0) (traced-dones p q i xs (a .1))
 
   marked-append-at : (p : X → Bool) (n : ℕ) (xs : List X) (x : X) (b : Bool) → (marked p n xs ≡ true → marked p n (xs ++ (x ∷ [])) ≡ true) → (b || marked p n xs) ≡ true → (b || marked p n (xs ++ (x ∷ []))) ≡ true
   marked-append-at p n xs x true ih e = refl
@@ -259,19 +259,19 @@ module _ {X : Type 0} (key : X → ℕ) where
   marked-append p n [] x e = absurd (both-ways false refl e)
   marked-append p n (y ∷ xs) x e = marked-append-at p n xs x (has-in key n y && p y) (marked-append p n xs x) e
 
-  gone-append-at : (p : X → Bool) (n : ℕ) (y : X) (xs : List X) (x : X) (b d : Bool) → (marked p n xs ≡ true → dropped key n (xs ++ (x ∷ [])) ≡ dropped key n xs ++ (x ∷ [])) → ((b && d) || marked p n xs) ≡ true
+  dropped-append-at : (p : X → Bool) (n : ℕ) (y : X) (xs : List X) (x : X) (b d : Bool) → (marked p n xs ≡ true → dropped key n (xs ++ (x ∷ [])) ≡ dropped key n xs ++ (x ∷ [])) → ((b && d) || marked p n xs) ≡ true
       → cond b (xs ++ (x ∷ [])) (y ∷ dropped key n (xs ++ (x ∷ []))) ≡ cond b xs (y ∷ dropped key n xs) ++ (x ∷ [])
-  gone-append-at p n y xs x true d ih e = refl
-  gone-append-at p n y xs x false d ih e = ap (λ l. y ∷ l) (ih e)
+  dropped-append-at p n y xs x true d ih e = refl
+  dropped-append-at p n y xs x false d ih e = ap (λ l. y ∷ l) (ih e)
 
-  pub gone-append : (p : X → Bool) (n : ℕ) (xs : List X) (x : X) → marked p n xs ≡ true → dropped key n (xs ++ (x ∷ [])) ≡ dropped key n xs ++ (x ∷ [])
-  gone-append p n [] x e = absurd (both-ways false refl e)
-  gone-append p n (y ∷ xs) x e = gone-append-at p n y xs x (has-in key n y) (p y) (gone-append p n xs x) e
+  pub dropped-append : (p : X → Bool) (n : ℕ) (xs : List X) (x : X) → marked p n xs ≡ true → dropped key n (xs ++ (x ∷ [])) ≡ dropped key n xs ++ (x ∷ [])
+  dropped-append p n [] x e = absurd (both-ways false refl e)
+  dropped-append p n (y ∷ xs) x e = dropped-append-at p n y xs x (has-in key n y) (p y) (dropped-append p n xs x) e
 
-  pub told-append : (p : X → Bool) (es : List Event) (xs : List X) (x : X) → Traced p es xs → Traced p es (xs ++ (x ∷ []))
-  told-append p [] xs x t = tt
-  told-append p (Issue n ∷ es) xs x t = told-append p es xs x t
-  told-append p (Done n ∷ es) xs x t = (marked-append p n xs x (t .0), subst (Traced p es) (sym (gone-append p n xs x (t .0))) (told-append p es (dropped key n xs) x (t .1)))
+  pub traced-append : (p : X → Bool) (es : List Event) (xs : List X) (x : X) → Traced p es xs → Traced p es (xs ++ (x ∷ []))
+  traced-append p [] xs x t = tt
+  traced-append p (Issue n ∷ es) xs x t = traced-append p es xs x t
+  traced-append p (Done n ∷ es) xs x t = (marked-append p n xs x (t .0), subst (Traced p es) (sym (dropped-append p n xs x (t .0))) (traced-append p es (dropped key n xs) x (t .1)))
 
   pub marked-has : (p : X → Bool) (n : ℕ) (xs : List X) → any (has-in key n) xs ≡ false → marked p n xs ≡ true → ⊥
   marked-has p n [] a e = both-ways false refl e
@@ -279,16 +279,16 @@ module _ {X : Type 0} (key : X → ℕ) where
       let j = or-false (has-in key n x) _ a in
       marked-has p n xs (j .1) (sym (ap (λ b. (b && p x) || marked p n xs) (j .0)) ∙ e)
 
-  still-gone-at : (p : X → Bool) (n : ℕ) (x : X) (xs : List X) (b d : Bool) → eqb (key x) n ≡ b → any (has-in key (key x)) xs ≡ false → ((b && d) || marked p n xs) ≡ true → (marked p n xs ≡ true → failing p (dropped key n xs) ≡ failing p xs)
+  failing-dropped-at : (p : X → Bool) (n : ℕ) (x : X) (xs : List X) (b d : Bool) → eqb (key x) n ≡ b → any (has-in key (key x)) xs ≡ false → ((b && d) || marked p n xs) ≡ true → (marked p n xs ≡ true → failing p (dropped key n xs) ≡ failing p xs)
       → p x ≡ d → failing p (cond b xs (x ∷ dropped key n xs)) ≡ cond d (failing p xs) (x ∷ failing p xs)
-  still-gone-at p n x xs true true e a m ih k = refl
-  still-gone-at p n x xs true false e a m ih k = absurd (marked-has p n xs (ap (λ j. any (has-in key j) xs) (sym (eqb-true _ _ e)) ∙ a) m)
-  still-gone-at p n x xs false d e a m ih k = ap (λ b. cond b (failing p (dropped key n xs)) (x ∷ failing p (dropped key n xs))) k ∙ ap (λ l. cond d l (x ∷ l)) (ih m)
+  failing-dropped-at p n x xs true true e a m ih k = refl
+  failing-dropped-at p n x xs true false e a m ih k = absurd (marked-has p n xs (ap (λ j. any (has-in key j) xs) (sym (eqb-true _ _ e)) ∙ a) m)
+  failing-dropped-at p n x xs false d e a m ih k = ap (λ b. cond b (failing p (dropped key n xs)) (x ∷ failing p (dropped key n xs))) k ∙ ap (λ l. cond d l (x ∷ l)) (ih m)
 
   -- a Done that is ready ends one that passes the test
-  pub still-gone : (p : X → Bool) (n : ℕ) (xs : List X) → Apart xs → marked p n xs ≡ true → failing p (dropped key n xs) ≡ failing p xs
-  still-gone p n [] a m = refl
-  still-gone p n (x ∷ xs) a m = still-gone-at p n x xs (has-in key n x) (p x) refl (a .0) m (still-gone p n xs (a .1)) refl
+  pub failing-dropped : (p : X → Bool) (n : ℕ) (xs : List X) → Apart xs → marked p n xs ≡ true → failing p (dropped key n xs) ≡ failing p xs
+  failing-dropped p n [] a m = refl
+  failing-dropped p n (x ∷ xs) a m = failing-dropped-at p n x xs (has-in key n x) (p x) refl (a .0) m (failing-dropped p n xs (a .1)) refl
 
   -- ---- the readings
 
@@ -320,21 +320,21 @@ module _ {X : Type 0} (key : X → ℕ) where
     without-none n [] e = refl
     without-none n (x ∷ xs) e = let k = or-false (has-in key n x) _ e in without-none-at n x xs (has-slot n (entry x)) (ap (λ j. eqb j n) (fits x) ∙ k .0) (without-none n xs (k .1))
 
-    gone-entries-at : (n : ℕ) (x : X) (xs : List X) (b : Bool) → has-in key n x ≡ b → any (has-in key (key x)) xs ≡ false → map entry (dropped key n xs) ≡ without n (map entry xs)
+    dropped-entries-at : (n : ℕ) (x : X) (xs : List X) (b : Bool) → has-in key n x ≡ b → any (has-in key (key x)) xs ≡ false → map entry (dropped key n xs) ≡ without n (map entry xs)
         → map entry (cond b xs (x ∷ dropped key n xs)) ≡ cond b (without n (map entry xs)) (entry x ∷ without n (map entry xs))
-    gone-entries-at n x xs true e a k = sym (without-none n xs (ap (λ m. any (has-in key m) xs) (sym (eqb-true _ _ e)) ∙ a))
-    gone-entries-at n x xs false e a k = ap (λ l. entry x ∷ l) k
+    dropped-entries-at n x xs true e a k = sym (without-none n xs (ap (λ m. any (has-in key m) xs) (sym (eqb-true _ _ e)) ∙ a))
+    dropped-entries-at n x xs false e a k = ap (λ l. entry x ∷ l) k
 
-    gone-entries : (n : ℕ) (xs : List X) → Apart xs → map entry (dropped key n xs) ≡ without n (map entry xs)
-    gone-entries n [] a = refl
-    gone-entries n (x ∷ xs) a =
-        gone-entries-at n x xs (has-in key n x) refl (a .0) (gone-entries n xs (a .1))
+    dropped-entries : (n : ℕ) (xs : List X) → Apart xs → map entry (dropped key n xs) ≡ without n (map entry xs)
+    dropped-entries n [] a = refl
+    dropped-entries n (x ∷ xs) a =
+        dropped-entries-at n x xs (has-in key n x) refl (a .0) (dropped-entries n xs (a .1))
         ∙ ap (λ j. cond (eqb j n) (without n (map entry xs)) (entry x ∷ without n (map entry xs))) (sym (fits x))
 
     pub collected-held : (o : Option Event) (xs : List X) → Apart xs → map entry (dropped-by key o xs) ≡ ended o (map entry xs)
     collected-held None xs a = refl
     collected-held (Some (Issue n)) xs a = refl
-    collected-held (Some (Done n)) xs a = gone-entries n xs a
+    collected-held (Some (Done n)) xs a = dropped-entries n xs a
 
     pub standing-none : (n : ℕ) (xs : List X) → any (has-in key n) xs ≡ false → standing n (map entry xs) ≡ Standing.absent
     standing-none n [] e = refl
@@ -344,18 +344,18 @@ module _ {X : Type 0} (key : X → ℕ) where
 
 -- ---- those that do not pass a test
 
-length-still-at : {X : Type 0} (x : X) (us : List X) (b : Bool) (k : ℕ) → length us ≤ k → length (cond b us (x ∷ us)) ≤ suc k
-length-still-at x us true k h = omega arith
-length-still-at x us false k h = omega arith
+length-failing-at : {X : Type 0} (x : X) (us : List X) (b : Bool) (k : ℕ) → length us ≤ k → length (cond b us (x ∷ us)) ≤ suc k
+length-failing-at x us true k h = omega arith
+length-failing-at x us false k h = omega arith
 
-pub length-still : {X : Type 0} (p : X → Bool) (xs : List X) → length (failing p xs) ≤ length xs
-length-still p [] = omega arith
-length-still p (x ∷ xs) = length-still-at x (failing p xs) (p x) (length xs) (length-still p xs)
+pub length-failing : {X : Type 0} (p : X → Bool) (xs : List X) → length (failing p xs) ≤ length xs
+length-failing p [] = omega arith
+length-failing p (x ∷ xs) = length-failing-at x (failing p xs) (p x) (length xs) (length-failing p xs)
 
-still-append-at : {X : Type 0} (y x : X) (us vs : List X) (b : Bool) → vs ≡ us ++ (x ∷ []) → cond b vs (y ∷ vs) ≡ cond b us (y ∷ us) ++ (x ∷ [])
-still-append-at y x us vs true e = e
-still-append-at y x us vs false e = ap (λ l. y ∷ l) e
+failing-append-at : {X : Type 0} (y x : X) (us vs : List X) (b : Bool) → vs ≡ us ++ (x ∷ []) → cond b vs (y ∷ vs) ≡ cond b us (y ∷ us) ++ (x ∷ [])
+failing-append-at y x us vs true e = e
+failing-append-at y x us vs false e = ap (λ l. y ∷ l) e
 
-pub still-append : {X : Type 0} (p : X → Bool) (xs : List X) (x : X) → p x ≡ false → failing p (xs ++ (x ∷ [])) ≡ failing p xs ++ (x ∷ [])
-still-append p [] x e = ap (λ b. cond b [] (x ∷ [])) e
-still-append p (y ∷ xs) x e = still-append-at y x (failing p xs) (failing p (xs ++ (x ∷ []))) (p y) (still-append p xs x e)
+pub failing-append : {X : Type 0} (p : X → Bool) (xs : List X) (x : X) → p x ≡ false → failing p (xs ++ (x ∷ [])) ≡ failing p xs ++ (x ∷ [])
+failing-append p [] x e = ap (λ b. cond b [] (x ∷ [])) e
+failing-append p (y ∷ xs) x e = failing-append-at y x (failing p xs) (failing p (xs ++ (x ∷ []))) (p y) (failing-append p xs x e)

@@ -4,7 +4,7 @@ use native.Mathlib.Omega.{arith}
 use lib.ListN.{length}
 use Rattle.std.specs.Holes.{removed}
 use Rattle.interface.specs.Slots.{place}
-use Rattle.interface.proofs.Slots.{gone-there, gone-not}
+use Rattle.interface.proofs.Slots.{dropped-there, dropped-not}
 use Rattle.held.specs.Entries.{has, key}
 use Rattle.held.specs.Rows.{Rows, rows}
 use Rattle.held.proofs.Stepping.{with-entries}
@@ -16,7 +16,7 @@ returns-then-i-len c =
     let n = c .args .slot in
     let at : c .find-i .result ≡ place (has n) (x .entries) = c .find-i .ensures ∙ ap (place (has n)) (c .as-slice .ensures .value) in
     let there : place (has n) (x .entries) < length (x .entries) = omega (arith, at, c .args .self .now .entries .ok .0) in
-    ap (with-entries x) (c .remove-ended .ensures .items ∙ ap (removed (x .entries)) at ∙ gone-there key n (x .entries) there)
+    ap (with-entries x) (c .remove-ended .ensures .items ∙ ap (removed (x .entries)) at ∙ dropped-there key n (x .entries) there)
 
 pub returns-else-i-len : need.returns-else-i-len
 returns-else-i-len c =
@@ -24,4 +24,4 @@ returns-else-i-len c =
     let n = c .args .slot in
     let at : c .find-i .result ≡ place (has n) (x .entries) = c .find-i .ensures ∙ ap (place (has n)) (c .as-slice .ensures .value) in
     let not : length (x .entries) ≤ place (has n) (x .entries) = omega (arith, at, c .args .self .now .entries .ok .0) in
-    ap (with-entries x) (sym (gone-not key n (x .entries) not))
+    ap (with-entries x) (sym (dropped-not key n (x .entries) not))
