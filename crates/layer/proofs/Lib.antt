@@ -1,0 +1,4 @@
+pub mod Tables
+pub mod Hearing
+pub mod Counts
+pub mod Synced

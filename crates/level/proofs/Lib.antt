@@ -1,0 +1,4 @@
+pub mod States
+pub mod Lawfulness
+pub mod Endings
+pub mod Delaying

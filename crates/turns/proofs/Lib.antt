@@ -1,0 +1,6 @@
+pub mod Lawfulness
+pub mod Waiting
+pub mod Requests
+pub mod Parts
+pub mod Spacing
+pub mod Histories
