@@ -62,10 +62,10 @@ pub each-proper : (other : Request → Bool) (p : ℕ) (es : List Event) (ws : L
 each-proper other p es [] a h = tt
 each-proper other p es (w ∷ ws) a h = (
   subst (λ st. Proper st (events-of (w .request .slot) es))
-  (front-same p w (failing (away other) ws) (away other w) (standing-none slot-of-entry (reading p) (λ v. refl) (w .request .slot) (failing (away other) ws) (some-failing slot-of-entry (away other) (w .request .slot) ws (a .0))))
-  (h (w .request .slot) (or-left (has (w .request .slot) w) _ (same (w .request .slot)))),
+      (front-same p w (failing (away other) ws) (away other w) (standing-none slot-of-entry (reading p) (λ v. refl) (w .request .slot) (failing (away other) ws) (some-failing slot-of-entry (away other) (w .request .slot) ws (a .0))))
+      (h (w .request .slot) (or-left (has (w .request .slot) w) _ (same (w .request .slot)))),
   each-proper other p es ws (a .1)
-  (λ n k. subst (λ st. Proper st (events-of n es)) (front-other n p w (failing (away other) ws) (away other w) (some-self slot-of-entry n ws (w .request .slot) (a .0) k)) (h n (or-true (has n w) _ k))),
+      (λ n k. subst (λ st. Proper st (events-of n es)) (front-other n p w (failing (away other) ws) (away other w) (some-self slot-of-entry n ws (w .request .slot) (a .0) k)) (h n (or-true (has n w) _ k))),
 )
 
 pub others-none : (other : Request → Bool) (p n : ℕ) (es : List Event) (ws : List Entry) → any (has n) ws ≡ false
@@ -202,7 +202,7 @@ proper-own k es w ws a i r =
     subst (λ l. Proper (stage w) (issues-in (events-of (w .request .slot) es) ++ l))
     (sym (events-of-one (w .request .slot) (dones-due k (map (moved es) ws)) (is-due k (moved es w)) (events-of-none slot-of-entry (is-due k) (w .request .slot) (map (moved es) ws) (some-map slot-of-entry (moved es) (λ v. refl) (w .request .slot) ws ∙ a))))
     (proper-own-at (w .request .slot) (events-of (w .request .slot) es) (w .issued) (w .done) (is-due k (moved es w)) i r
-      (λ d t. sym (ends-of (w .request .slot) es) ∙ ap (λ b. b || any (ends (w .request .slot)) es) (sym d) ∙ and-left _ _ t))
+    (λ d t. sym (ends-of (w .request .slot) es) ∙ ap (λ b. b || any (ends (w .request .slot)) es) (sym d) ∙ and-left _ _ t))
 
 proper-released-at : (n q k : ℕ) (es : List Event) (w : Entry) (ws : List Entry) (b : Bool) → eqb (w .request .slot) n ≡ b → any (has (w .request .slot)) ws ≡ false → (w .done ≡ true → w .issued ≡ true)
     → Proper (cond (w .done) Standing.absent (stage w)) (events-of (w .request .slot) es)

@@ -223,9 +223,9 @@ module _ (r : Meaning (List ℕ)) (l : Lawful r) where
           re = reached-after r (Call.take q) b (g .re);
           quiet = ap (r .ready) c ∙ l .taken-ready b q (g .re) fine ∙ g .quiet;
           sync =
-            ap (r .held) c ∙ l .taken-held b q (g .re) fine ∙ ap (λ hs. hs ++ (fresh q p ∷ [])) (g .sync)
-            ∙ ap (λ e. map (reading p) us ++ (e ∷ [])) (sym (new-reading q p)) ∙ sym (map-append (reading p) us (new-entry q))
-            ∙ ap (map (reading p)) (sym (failing-append (away other) ws (new-entry q) (or-right (other q) ∙ o))) ∙ ap (λ k. map (reading k) (failing (away other) (ws ++ (new-entry q ∷ [])))) (sym (span-after (Call.take q) b))
+              ap (r .held) c ∙ l .taken-held b q (g .re) fine ∙ ap (λ hs. hs ++ (fresh q p ∷ [])) (g .sync)
+              ∙ ap (λ e. map (reading p) us ++ (e ∷ [])) (sym (new-reading q p)) ∙ sym (map-append (reading p) us (new-entry q))
+              ∙ ap (map (reading p)) (sym (failing-append (away other) ws (new-entry q) (or-right (other q) ∙ o))) ∙ ap (λ k. map (reading k) (failing (away other) (ws ++ (new-entry q ∷ [])))) (sym (span-after (Call.take q) b));
         }
 
     -- a request that goes elsewhere
@@ -233,7 +233,7 @@ module _ (r : Meaning (List ℕ)) (l : Lawful r) where
     synced-other b ws q g o = record {
       re = g .re;
       quiet = g .quiet;
-      sync = g .sync ∙ ap (map (reading (r .span b))) (sym (passing-append (away other) ws (new-entry q) (or-left (other q) false o)))
+      sync = g .sync ∙ ap (map (reading (r .span b))) (sym (passing-append (away other) ws (new-entry q) (or-left (other q) false o)));
     }
 
     -- a request that is done below, and whose Done is collected
@@ -242,8 +242,8 @@ module _ (r : Meaning (List ℕ)) (l : Lawful r) where
       re = g .re;
       quiet = g .quiet;
       sync =
-        g .sync
-        ∙ ap (map (reading (r .span b))) (sym (failing-dropped slot-of-entry (away other) n ws a (marked-more done-below (away other) n ws (λ w e. or-true (other (w .request)) (w .done) e) m)))
+          g .sync
+          ∙ ap (map (reading (r .span b))) (sym (failing-dropped slot-of-entry (away other) n ws a (marked-more done-below (away other) n ws (λ w e. or-true (other (w .request)) (w .done) e) m)));
     }
 
     step-is : (b : List ℕ) (ws : List Entry) → Synced r other b ws → after r Call.step b ≡ r .stepped b
@@ -278,6 +278,6 @@ module _ (r : Meaning (List ℕ)) (l : Lawful r) where
           re = m .0;
           quiet = m .1;
           sync =
-            m .2 ∙ kept-is (events-below b) (r .held (after r Call.step b)) ∙ ap (remaining (events-below b)) (held-stepped b ws g) ∙ sync-step other (r .span b) es (events-below b) ws h a
-            ∙ ap (λ k. map (reading k) (failing (away other) (map (moved es) ws))) (sym (span-step b))
+              m .2 ∙ kept-is (events-below b) (r .held (after r Call.step b)) ∙ ap (remaining (events-below b)) (held-stepped b ws g) ∙ sync-step other (r .span b) es (events-below b) ws h a
+              ∙ ap (λ k. map (reading k) (failing (away other) (map (moved es) ws))) (sym (span-step b));
         }

@@ -95,7 +95,7 @@ stands-taken L t q ks bs ds c = record {
   past = omega arith;
   age = omega arith;
   waits = λ e. (refl, refl);
-  ended = λ e. absurd (both-ways false refl e)
+  ended = λ e. absurd (both-ways false refl e);
 }
 
 -- a request that is due, and whose Done is collected
@@ -104,8 +104,8 @@ stands-collected L t w ks bs ds d a p =
     let e = p .ended d in
     subst (λ x. Complete L x bs ds) (sym (p .takings))
     (subst (λ x. Complete L (p .before ++ (p .from ∷ [])) x ds) (sym (e .2))
-      (subst (Complete L (p .before ++ (p .from ∷ [])) (p .done ++ (e .0 ∷ []))) (sym (e .3 ∙ ap (λ b. p .ready ++ cond b (done-at L (p .from) (e .0) ∷ []) []) a))
-        (complete-more L (p .from) (e .0) (p .before) (p .done) (p .ready) (p .complete))))
+    (subst (Complete L (p .before ++ (p .from ∷ [])) (p .done ++ (e .0 ∷ []))) (sym (e .3 ∙ ap (λ b. p .ready ++ cond b (done-at L (p .from) (e .0) ∷ []) []) a))
+    (complete-more L (p .from) (e .0) (p .before) (p .done) (p .ready) (p .complete))))
 
 -- ---- a step
 
@@ -157,9 +157,9 @@ stands-stepped L t es w ks bs ds true x hl hd hx nx due p =
         let later = e .1 in omega arith,
         step-none bs t x (nx refl) ∙ e .2,
         ap (λ v. ds ++ at-step t v) due-now
-        ∙ ap (λ v. v ++ at-step t (leb L (moved es w .age))) (e .3 ∙ ap (λ v. p .ready ++ cond v (done-at L (p .from) (e .0) ∷ []) []) (due refl) ∙ append-nil (p .ready))
-        ∙ ap (λ v. p .ready ++ v) (reaches L t (p .from) (w .age) (e .0) true (leb L (moved es w .age)) hl (p .past) (p .age) (e .1) (due refl) refl),
-      )
+            ∙ ap (λ v. v ++ at-step t (leb L (moved es w .age))) (e .3 ∙ ap (λ v. p .ready ++ cond v (done-at L (p .from) (e .0) ∷ []) []) (due refl) ∙ append-nil (p .ready))
+            ∙ ap (λ v. p .ready ++ v) (reaches L t (p .from) (w .age) (e .0) true (leb L (moved es w .age)) hl (p .past) (p .age) (e .1) (due refl) refl),
+      );
     }
 stands-stepped L t es w ks bs ds false true hl hd hx nx due p =
     let e = p .waits hd in
@@ -181,9 +181,9 @@ stands-stepped L t es w ks bs ds false true hl hd hx nx due p =
         omega arith,
         ap (λ v. v ++ (t ∷ [])) (e .0),
         ap (λ v. ds ++ at-step t (v && leb L (moved es w .age))) is-done
-        ∙ ap (λ v. v ++ at-step t (leb L (moved es w .age))) (e .1)
-        ∙ ap (λ v. p .ready ++ v) (now-done L t (p .from) (w .age) (leb L (moved es w .age)) hl (p .past) (p .age) refl),
-      )
+            ∙ ap (λ v. v ++ at-step t (leb L (moved es w .age))) (e .1)
+            ∙ ap (λ v. p .ready ++ v) (now-done L t (p .from) (w .age) (leb L (moved es w .age)) hl (p .past) (p .age) refl),
+      );
     }
 stands-stepped L t es w ks bs ds false false hl hd hx nx due p =
     let e = p .waits hd in
@@ -200,7 +200,7 @@ stands-stepped L t es w ks bs ds false false hl hd hx nx due p =
       past = omega arith;
       age = omega arith;
       waits = λ f. (append-nil bs ∙ e .0, ap (λ v. ds ++ at-step t (v && leb L (moved es w .age))) not-done ∙ append-nil ds ∙ e .1);
-      ended = λ f. absurd (both-ways _ not-done f)
+      ended = λ f. absurd (both-ways _ not-done f);
     }
 
 -- ---- the law of one slot
@@ -210,7 +210,7 @@ pending-delayed L t w ks bs ds false a hd ha hl p =
     let e = p .waits hd in
     subst (λ x. Delayed L t x bs ds) (sym (p .takings))
     (subst (λ x. Delayed L t (p .before ++ (p .from ∷ [])) x ds) (sym (e .0))
-      (subst (Delayed L t (p .before ++ (p .from ∷ [])) (p .done)) (sym (e .1)) (delayed-below L t (p .from) (p .before) (p .done) (p .ready) (p .complete))))
+    (subst (Delayed L t (p .before ++ (p .from ∷ [])) (p .done)) (sym (e .1)) (delayed-below L t (p .from) (p .before) (p .done) (p .ready) (p .complete))))
 pending-delayed L t w ks bs ds true true hd ha hl p = delayed-complete L t ks bs ds (stands-collected L t w ks bs ds hd ha p)
 pending-delayed L t w ks bs ds true false hd ha hl p =
     let e = p .ended hd in
@@ -221,8 +221,8 @@ pending-delayed L t w ks bs ds true false hd ha hl p =
     let not-yet : t ≤ done-at L (p .from) (e .0) = omega arith in
     subst (λ x. Delayed L t x bs ds) (sym (p .takings))
     (subst (λ x. Delayed L t (p .before ++ (p .from ∷ [])) x ds) (sym (e .2))
-      (subst (Delayed L t (p .before ++ (p .from ∷ [])) (p .done ++ (e .0 ∷ []))) (sym (e .3 ∙ ap (λ b. p .ready ++ cond b (done-at L (p .from) (e .0) ∷ []) []) ha ∙ append-nil (p .ready)))
-        (delayed-waits L t (p .from) (e .0) (p .before) (p .done) (p .ready) not-yet (p .complete))))
+    (subst (Delayed L t (p .before ++ (p .from ∷ [])) (p .done ++ (e .0 ∷ []))) (sym (e .3 ∙ ap (λ b. p .ready ++ cond b (done-at L (p .from) (e .0) ∷ []) []) ha ∙ append-nil (p .ready)))
+    (delayed-waits L t (p .from) (e .0) (p .before) (p .done) (p .ready) not-yet (p .complete))))
 
 pub stands-delayed : (L t : ℕ) (o : Option Entry) (ks bs ds : List ℕ) → L ≤ 65535 → Stands L t o ks bs ds → Delayed L t ks bs ds
 stands-delayed L t None ks bs ds hl c = delayed-complete L t ks bs ds c

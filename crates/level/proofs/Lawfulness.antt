@@ -55,8 +55,8 @@ punctual-released : (p q k : ℕ) (es ds : List Event) (ws : List Entry) → p <
 punctual-released p q k es ds [] hp hq hk t i = tt
 punctual-released p q k es ds (w ∷ ws) hp hq hk t i = (
   λ z. i (w .request .slot) (
-    ap (λ b. any (ends (w .request .slot)) (cond b (Done (w .request .slot) ∷ dones-due k (map (moved es) ws)) (dones-due k (map (moved es) ws)))) (due-one p q k es w (w .done) refl hp hq hk (t .0) z) ∙ or-left _ _ (same (w .request .slot))
-  ),
+      ap (λ b. any (ends (w .request .slot)) (cond b (Done (w .request .slot) ∷ dones-due k (map (moved es) ws)) (dones-due k (map (moved es) ws)))) (due-one p q k es w (w .done) refl hp hq hk (t .0) z) ∙ or-left _ _ (same (w .request .slot))
+      ),
   punctual-released p q k es ds ws hp hq hk (t .1) (λ n e. i n (done-more n (w .request .slot) (is-due k (moved es w)) (dones-due k (map (moved es) ws)) e)),
 )
 
@@ -86,7 +86,7 @@ module _ (r : Meaning (List ℕ)) (l : Lawful r) (short : (s : List ℕ) → r .
         apart = apart-append slot-of-entry ws (new-entry q) (g .apart) free;
         few = simp length-append (omega arith);
         issued = done-issued-append ws q (g .issued);
-        traced = traced-append slot-of-entry done-below (s .table .events) ws (new-entry q) (g .traced)
+        traced = traced-append slot-of-entry done-below (s .table .events) ws (new-entry q) (g .traced);
       }
 
   good-collect : (s : State) (es : List Event) → Good r s → Traced slot-of-entry done-below es (s .table .held) → Good r (record { delay = s .delay; table = collected (record { held = s .table .held; events = es }); below = s .below })
@@ -101,7 +101,7 @@ module _ (r : Meaning (List ℕ)) (l : Lawful r) (short : (s : List ℕ) → r .
         apart = apart-dropped slot-of-entry n ws (g .apart);
         few = omega arith;
         issued = done-issued-dropped n ws (g .issued);
-        traced = t .1
+        traced = t .1;
       }
 
   -- ---- a step
@@ -114,7 +114,7 @@ module _ (r : Meaning (List ℕ)) (l : Lawful r) (short : (s : List ℕ) → r .
   tidy s = record {
     delay = s .delay;
     table = record { held = map (moved (events-of-step s)) (s .table .held); events = forwarded Issues (events-of-step s) ++ dones-due (wait s) (map (moved (events-of-step s)) (s .table .held)) };
-    below = below-after r l (s .below)
+    below = below-after r l (s .below);
   }
 
   heard : (s : State) → Good r s → EachProper nobody (events-of-step s) (s .table .held)
@@ -136,10 +136,10 @@ module _ (r : Meaning (List ℕ)) (l : Lawful r) (short : (s : List ℕ) → r .
       let f = g .few in
       state-path (meaning-over r .stepped s) (tidy s) refl
       (contents-path (meaning-over r .stepped s .table) (tidy s .table) fuse
-        (ap (λ o. all-added (dones-due (wait s) us) (all-added (forwarded Issues es) o)) e
-         ∙ ap (λ x. all-added (dones-due (wait s) x) (all-added (forwarded Issues es) [])) fuse
-         ∙ ap (all-added (dones-due (wait s) vs)) (all-added-is (forwarded Issues es) [] (omega arith))
-         ∙ all-added-is (dones-due (wait s) vs) (forwarded Issues es) (omega arith)))
+      (ap (λ o. all-added (dones-due (wait s) us) (all-added (forwarded Issues es) o)) e
+      ∙ ap (λ x. all-added (dones-due (wait s) x) (all-added (forwarded Issues es) [])) fuse
+      ∙ ap (all-added (dones-due (wait s) vs)) (all-added-is (forwarded Issues es) [] (omega arith))
+      ∙ all-added-is (dones-due (wait s) vs) (forwarded Issues es) (omega arith)))
       refl
 
   good-tidy : (s : State) → Good r s → Good r (tidy s)
@@ -154,7 +154,7 @@ module _ (r : Meaning (List ℕ)) (l : Lawful r) (short : (s : List ℕ) → r .
         apart = apart;
         few = omega arith;
         issued = done-issued-step es ws (g .issued) (heard s g);
-        traced = traced-issues es (dones-due (wait s) (map (moved es) ws)) (map (moved es) ws) (traced-dones slot-of-entry done-below (is-due (wait s)) (λ w e. and-left _ _ e) (map (moved es) ws) apart)
+        traced = traced-issues es (dones-due (wait s) (map (moved es) ws)) (map (moved es) ws) (traced-dones slot-of-entry done-below (is-due (wait s)) (λ w e. and-left _ _ e) (map (moved es) ws) apart);
       }
 
   good-step : (s : State) → Good r s → s .table .events ≡ [] → Good r (meaning-over r .stepped s)
@@ -177,7 +177,7 @@ module _ (r : Meaning (List ℕ)) (l : Lawful r) (short : (s : List ℕ) → r .
       let ds = dones-due (wait s) (map (moved es) (s .table .held)) in
       ap (λ k. map (reading k) (map (moved es) (s .table .held))) (span-tidy s)
       ∙ map-moved (span-over r s) es (tidy s .table .events) (s .table .held) (span-fits s)
-        (λ n. issues-append n (forwarded Issues es) ds (issues-none slot-of-entry (is-due (wait s)) n (map (moved es) (s .table .held))) ∙ issues-forwarded n es)
+      (λ n. issues-append n (forwarded Issues es) ds (issues-none slot-of-entry (is-due (wait s)) n (map (moved es) (s .table .held))) ∙ issues-forwarded n es)
 
   proper-tidy : (s : State) → Good r s → (n : ℕ) → Proper (standing n (meaning-over r .held s)) (events-of n (tidy s .table .events))
   proper-tidy s g n =

@@ -41,7 +41,7 @@ abbrev pub stepped-over : Meaning (List ℕ) → State → List ℕ → State
 stepped-over m s b = record {
   delay = s .delay;
   table = released (wait s) (all-advanced (gathered Issues (m .ready b) (s .table)));
-  below = emptied m (m .ready b) b
+  below = emptied m (m .ready b) b;
 }
 
 abbrev pub meaning-over : Meaning (List ℕ) → Meaning State

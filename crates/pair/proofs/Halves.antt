@@ -40,7 +40,7 @@ module _ (other : Request → Bool) where
   each-of-two es ds [] p q = tt
   each-of-two es ds (w ∷ ws) p q = (
     subst (Proper (cond (w .done) Standing.absent (stage w))) (sym (events-of-append (w .request .slot) es ds))
-    (one-of-two (other (w .request)) (w .done) (stage w) (events-of (w .request .slot) es) (events-of (w .request .slot) ds) (p .0) (q .0)),
+        (one-of-two (other (w .request)) (w .done) (stage w) (events-of (w .request .slot) es) (events-of (w .request .slot) ds) (p .0) (q .0)),
     each-of-two es ds ws (p .1) (q .1),
   )
 

@@ -79,7 +79,7 @@ module _ (m n : Meaning (List ℕ)) (k : Lawful m) (l : Lawful n) (short : (s : 
         apart = apart-append slot-of-entry ws (new-entry q) (g .apart) free;
         few = simp length-append (omega arith);
         ready = done-ready-append (s .table .events) ws q (g .ready);
-        traced = traced-append slot-of-entry done-below (s .table .events) ws (new-entry q) (g .traced)
+        traced = traced-append slot-of-entry done-below (s .table .events) ws (new-entry q) (g .traced);
       }
 
   good-collect : (s : State) (es : List Event) → Good m n s → DoneReady es (s .table .held) → Traced slot-of-entry done-below es (s .table .held)
@@ -96,7 +96,7 @@ module _ (m n : Meaning (List ℕ)) (k : Lawful m) (l : Lawful n) (short : (s : 
         apart = apart-dropped slot-of-entry i ws (g .apart);
         few = omega arith;
         ready = done-ready-dropped i es ws (g .apart) d;
-        traced = t .1
+        traced = t .1;
       }
 
   -- ---- a step
@@ -115,7 +115,7 @@ module _ (m n : Meaning (List ℕ)) (k : Lawful m) (l : Lawful n) (short : (s : 
   tidy s = record {
     table = record { held = map (moved (of-both s)) (s .table .held); events = of-both s };
     first = below-after m k (s .first);
-    second = below-after n l (s .second)
+    second = below-after n l (s .second);
   }
 
   heard-first : (s : State) → Good m n s → EachProper not-first (of-first s) (s .table .held)
@@ -140,12 +140,12 @@ module _ (m n : Meaning (List ℕ)) (k : Lawful m) (l : Lawful n) (short : (s : 
       let f = g .few in
       state-path (r .stepped s) (tidy s)
       (contents-path (r .stepped s .table) (tidy s .table)
-        (ap (map advanced) (map-fuse (updated ds) (updated es) (updated (es ++ ds)) ws (updated-append es ds)) ∙ map-fuse advanced (updated (es ++ ds)) (moved (es ++ ds)) ws (λ w. refl))
-        (ap (λ o. all-added (forwarded All ds) (all-added (forwarded All es) o)) e
-         ∙ ap (λ x. all-added x (all-added (forwarded All es) [])) (forwarded-all ds)
-         ∙ ap (λ x. all-added ds (all-added x [])) (forwarded-all es)
-         ∙ ap (all-added ds) (all-added-is es [] (omega arith))
-         ∙ all-added-is ds es (omega arith)))
+      (ap (map advanced) (map-fuse (updated ds) (updated es) (updated (es ++ ds)) ws (updated-append es ds)) ∙ map-fuse advanced (updated (es ++ ds)) (moved (es ++ ds)) ws (λ w. refl))
+      (ap (λ o. all-added (forwarded All ds) (all-added (forwarded All es) o)) e
+      ∙ ap (λ x. all-added x (all-added (forwarded All es) [])) (forwarded-all ds)
+      ∙ ap (λ x. all-added ds (all-added x [])) (forwarded-all es)
+      ∙ ap (all-added ds) (all-added-is es [] (omega arith))
+      ∙ all-added-is ds es (omega arith)))
       refl refl
 
   proper-tidy : (s : State) → Good m n s → (p i : ℕ) → Proper (standing i (map (reading p) (s .table .held))) (events-of i (of-both s))
@@ -162,7 +162,7 @@ module _ (m n : Meaning (List ℕ)) (k : Lawful m) (l : Lawful n) (short : (s : 
         apart = apart-map slot-of-entry (moved (of-both s)) (λ w. refl) ws (g .apart);
         few = omega arith;
         ready = done-ready-step (of-both s) ws d;
-        traced = traced-heard (of-both s) ws (proper-tidy s g 0) (others s g)
+        traced = traced-heard (of-both s) ws (proper-tidy s g 0) (others s g);
       }
 
   none-done : (s : State) → Good m n s → s .table .events ≡ [] → DoneReady [] (s .table .held)
@@ -191,7 +191,7 @@ module _ (m n : Meaning (List ℕ)) (k : Lawful m) (l : Lawful n) (short : (s : 
   punctual-tidy s g d =
       subst (λ x. Punctual (map (reading x) (map (moved (of-both s)) (s .table .held))) (of-both s)) (sym (span-tidy s))
       (punctual-both not-first (m .span (s .first)) (n .span (s .second)) (span-of m n s) (of-first s) (of-second s) (s .table .held) (span-fits s) (omega arith) (omega arith) d
-        (punctual-heard m k not-first (s .first) (s .table .held) (g .one)) (punctual-heard n l not-second (s .second) (s .table .held) (g .two)))
+      (punctual-heard m k not-first (s .first) (s .table .held) (g .one)) (punctual-heard n l not-second (s .second) (s .table .held) (g .two)))
 
   start-path : (a b c d : List ℕ) → a ≡ c → b ≡ d → beginning a b ≡ beginning c d
   start-path a b c d p q = ap (λ x. beginning x b) p ∙ ap (beginning c) q

@@ -39,7 +39,7 @@ abbrev pub taken-of : Meaning (List ℕ) → Meaning (List ℕ) → State → Re
 taken-of m n s q = record {
   table = admitted (s .table) q;
   first = cond (to-first q) (after m (Call.take q) (s .first)) (s .first);
-  second = cond (to-first q) (s .second) (after n (Call.take q) (s .second))
+  second = cond (to-first q) (s .second) (after n (Call.take q) (s .second));
 }
 
 -- after the steps of the two, which left a and b: the events of the first, and then those of the second
@@ -47,7 +47,7 @@ abbrev pub stepped-of : Meaning (List ℕ) → Meaning (List ℕ) → State → 
 stepped-of m n s a b = record {
   table = all-advanced (gathered All (n .ready b) (gathered All (m .ready a) (s .table)));
   first = emptied m (m .ready a) a;
-  second = emptied n (n .ready b) b
+  second = emptied n (n .ready b) b;
 }
 
 abbrev pub meaning-of : Meaning (List ℕ) → Meaning (List ℕ) → Meaning State

@@ -1,10 +1,10 @@
 // Reads requests from standard input, one to a line, and prints every Issue and Done of a controller with its step.
 // The first argument names the controller: come (also without an argument), turns, pair, or level with a number.
+use arrivals::Arrival;
+use arrivals::Complaint;
 use arrivals::admit;
 use arrivals::drain;
 use arrivals::read_arrival;
-use arrivals::Arrival;
-use arrivals::Complaint;
 use first_come::FirstCome;
 use first_come::FirstComeController;
 use first_come::FirstComeCountableSpan;
@@ -15,7 +15,6 @@ use level::Level;
 use level::LevelController;
 use pair::Pair;
 use pair::PairController;
-use std::alloc::Global;
 use std::env;
 use std::error::AnyError;
 use turns::Turns;
@@ -78,13 +77,21 @@ fn show(rt: &LibcRuntime, step: u64, event: Event, arrivals: &[Arrival]) -> Resu
     if let Some(arrival) = arrivals.get(usize::from(slot)) {
         let kind = name_of(arrival.request.kind);
         let bank = arrival.request.bank;
-        println!(rt, "step {step}: {name} of line {line}, a {kind} on bank {bank}")?;
+        println!(
+            rt,
+            "step {step}: {name} of line {line}, a {kind} on bank {bank}"
+        )?;
     }
     Ok(done)
 }
 
 // Lets a step pass and prints its events; how many requests were done.
-fn pass<C: Controller>(rt: &LibcRuntime, controller: &mut C, step: u64, arrivals: &[Arrival]) -> Result<usize, AnyError> {
+fn pass<C: Controller>(
+    rt: &LibcRuntime,
+    controller: &mut C,
+    step: u64,
+    arrivals: &[Arrival],
+) -> Result<usize, AnyError> {
     let mut events = [Event::Issue(0); 64];
     let _ = controller.step();
     let count = drain(controller, &mut events);
@@ -98,7 +105,11 @@ fn pass<C: Controller>(rt: &LibcRuntime, controller: &mut C, step: u64, arrivals
 }
 
 // Takes each request through the controller, until all are done.
-fn run<C: Controller>(rt: &LibcRuntime, controller: &mut C, arrivals: &[Arrival]) -> Result<(), AnyError> {
+fn run<C: Controller>(
+    rt: &LibcRuntime,
+    controller: &mut C,
+    arrivals: &[Arrival],
+) -> Result<(), AnyError> {
     let mut next = 0;
     let mut ended: usize = 0;
     for step in 0..STEPS {
@@ -111,13 +122,55 @@ fn run<C: Controller>(rt: &LibcRuntime, controller: &mut C, arrivals: &[Arrival]
     Err("not finished after 100,000,000 steps".into())
 }
 
-fn main(rt: LibcRuntime) -> Result<(), AnyError> {
-    rt.report(replay(&rt))
+// Which controller is run.
+#[derive(Drop)]
+enum Choice {
+    Come,
+    Turns,
+    // first-come for banks 0 to 3, turns for banks 4 to 7
+    Pair,
+    // level over first-come
+    Level(u16),
+}
+
+fn chosen(rt: &LibcRuntime) -> Result<Choice, AnyError> {
+    let mut args = env::args(rt)?;
+    let _program = args.next();
+    let Some(name) = args.next() else {
+        return Ok(Choice::Come);
+    };
+    match name.as_str() {
+        "come" => Ok(Choice::Come),
+        "turns" => Ok(Choice::Turns),
+        "pair" => Ok(Choice::Pair),
+        "level" => match args.next() {
+            Some(number) => Ok(Choice::Level(number.parse::<u16>()?)),
+            None => Err("level wants a number from 0 to 65,535".into()),
+        },
+        _ => Err("the controllers are come, turns, pair and level".into()),
+    }
 }
 
 fn replay(rt: &LibcRuntime) -> Result<(), AnyError> {
     let heap = rt.alloc();
+    let choice = chosen(rt)?;
     let arrivals = read_all(rt)?;
-    let mut controller = FirstCome::new(heap)?;
-    run(rt, &mut controller, arrivals.as_slice())
+    let arrivals = arrivals.as_slice();
+    match choice {
+        Choice::Come => run(rt, &mut FirstCome::new(heap)?, arrivals),
+        Choice::Turns => run(rt, &mut Turns::new(heap)?, arrivals),
+        Choice::Pair => {
+            let first = FirstCome::new(heap)?;
+            let second = Turns::new(heap)?;
+            run(rt, &mut Pair::new(heap, first, second)?, arrivals)
+        }
+        Choice::Level(delay) => {
+            let below = FirstCome::new(heap)?;
+            run(rt, &mut Level::new(heap, below, delay)?, arrivals)
+        }
+    }
+}
+
+fn main(rt: LibcRuntime) -> Result<(), AnyError> {
+    rt.report(replay(&rt))
 }

@@ -21,7 +21,11 @@ impl<C: Controller + Drop> Level<C> {
         ensures { λ r. ⌜ made r (λ l. view state l ≡ beginning delay (meaning .start (state below))) ⌝ }
     {
         let table = Table::new(heap)?;
-        let mut level = Level { below, delay, table };
+        let mut level = Level {
+            below,
+            delay,
+            table,
+        };
         level.below.reset();
         Ok(level)
     }

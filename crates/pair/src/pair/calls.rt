@@ -28,7 +28,11 @@ impl<A: Controller + Drop, B: Controller + Drop> Pair<A, B> {
         ensures { λ r. ⌜ made r (λ p. view (A·Controller .state) (B·Controller .state) p ≡ beginning (A·Controller .meaning .start (A·Controller .state first)) (B·Controller .meaning .start (B·Controller .state second))) ⌝ }
     {
         let table = Table::new(heap)?;
-        let mut pair = Pair { first, second, table };
+        let mut pair = Pair {
+            first,
+            second,
+            table,
+        };
         pair.first.reset();
         pair.second.reset();
         Ok(pair)
@@ -82,7 +86,10 @@ impl<A: Controller + Drop, B: Controller + Drop> Pair<A, B> {
     }
 }
 
-pub impl<A: CountableSpan + Drop, B: CountableSpan + Drop> Controller for Pair<A, B> as PairController {
+pub impl<A: CountableSpan + Drop, B: CountableSpan + Drop> Controller for Pair<
+    A,
+    B,
+> as PairController {
     ghost meaning = { pair-meaning (A·Controller .meaning) (B·Controller .meaning) };
 
     ghost state = { λ p. pair-codes (view (A·Controller .state) (B·Controller .state) p) };
@@ -114,4 +121,7 @@ pub impl<A: CountableSpan + Drop, B: CountableSpan + Drop> Controller for Pair<A
     }
 }
 
-pub impl<A: CountableSpan + Drop, B: CountableSpan + Drop> CountableSpan for Pair<A, B> as PairSpan {}
+pub impl<A: CountableSpan + Drop, B: CountableSpan + Drop> CountableSpan for Pair<
+    A,
+    B,
+> as PairSpan {}

@@ -15,10 +15,11 @@ loop-event-again g c =
     let e = c .in-Some .event in
     let some = c .in-Some .ensures tt .answer in
     let went = c .collect .ensures .after in
-    let front = turn-ready (m .meaning) l s t e some went in
-    (turn-emptied (m .meaning) l s t e some went ∙ c .loop-event .inv .0,
-     ap (gathered f (m .meaning .ready t)) (c .hear .ensures) ∙ gathered-more f e (m .meaning .ready t) (contents (c .loop-event .self))
-     ∙ ap (λ es. gathered f es (contents (c .loop-event .self))) (sym front) ∙ c .loop-event .inv .1)
+    let front = turn-ready (m .meaning) l s t e some went in (
+      turn-emptied (m .meaning) l s t e some went ∙ c .loop-event .inv .0,
+      ap (gathered f (m .meaning .ready t)) (c .hear .ensures) ∙ gathered-more f e (m .meaning .ready t) (contents (c .loop-event .self))
+          ∙ ap (λ es. gathered f es (contents (c .loop-event .self))) (sym front) ∙ c .loop-event .inv .1,
+    )
 
 pub returns : need.returns
 returns g c =
@@ -30,5 +31,5 @@ returns g c =
     let empty = first-none (m .meaning .ready s) none in
     record {
       below = last-after (m .meaning) s t none (c .collect .ensures .after) ∙ ap (λ es. emptied (m .meaning) es s) (sym empty) ∙ c .loop-event .inv .0;
-      after = gathered-none f (contents (c .loop-event .self)) ∙ ap (λ es. gathered f es (contents (c .loop-event .self))) (sym empty) ∙ c .loop-event .inv .1
+      after = gathered-none f (contents (c .loop-event .self)) ∙ ap (λ es. gathered f es (contents (c .loop-event .self))) (sym empty) ∙ c .loop-event .inv .1;
     }

@@ -14,5 +14,5 @@ returns g c =
     let put : Contents → State = λ t. record { delay = x .delay; table = t; below = x .below } in
     record {
       answer = collect-is level-codes level-of level-back r x _ (sym (c .collect .ensures .answer));
-      after = after-is level-codes level-of level-back r Call.collect x _ (ap put (c .collect .ensures .after) ∙ sym (collect-any put (x .table)))
+      after = after-is level-codes level-of level-back r Call.collect x _ (ap put (c .collect .ensures .after) ∙ sym (collect-any put (x .table)));
     }

@@ -11,5 +11,5 @@ returns g c =
     let x = view (m .state) (c .args .self .now) in
     record {
       answer = step-is level-codes level-of level-back r x _ (sym (c .pass .ensures .answer));
-      after = after-is level-codes level-of level-back r Call.step x _ (c .pass .ensures .after ∙ ap (λ v. accepted v (r .stepped x) x) (c .pass .ensures .answer))
+      after = after-is level-codes level-of level-back r Call.step x _ (c .pass .ensures .after ∙ ap (λ v. accepted v (r .stepped x) x) (c .pass .ensures .answer));
     }

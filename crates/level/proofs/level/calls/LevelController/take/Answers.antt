@@ -12,8 +12,8 @@ returns g c =
     let x = view (m .state) (c .args .self .now) in
     let q = c .args .request in
     let a : take-refusal r x q ≡ refused (c .hold .result) =
-      admission-is r x q (span-over (m .meaning) x) (x .table) refl (g .C·Controller·met .lawful .places-most (x .below)) ∙ sym (c .hold .ensures .answer) in
+    admission-is r x q (span-over (m .meaning) x) (x .table) refl (g .C·Controller·met .lawful .places-most (x .below)) ∙ sym (c .hold .ensures .answer) in
     record {
       answer = take-is level-codes level-of level-back r q x _ a;
-      after = after-is level-codes level-of level-back r (Call.take q) x _ (c .hold .ensures .after ∙ ap (λ v. accepted v (r .taken x q) x) (sym a))
+      after = after-is level-codes level-of level-back r (Call.take q) x _ (c .hold .ensures .after ∙ ap (λ v. accepted v (r .taken x q) x) (sym a));
     }

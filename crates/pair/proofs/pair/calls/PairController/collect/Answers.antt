@@ -13,5 +13,5 @@ returns g c =
     let put : Contents → State = λ t. record { table = t; first = x .first; second = x .second } in
     record {
       answer = collect-is pair-codes pair-of pair-back r x _ (sym (c .collect .ensures .answer));
-      after = after-is pair-codes pair-of pair-back r Call.collect x _ (ap put (c .collect .ensures .after) ∙ sym (collect-any put (x .table)))
+      after = after-is pair-codes pair-of pair-back r Call.collect x _ (ap put (c .collect .ensures .after) ∙ sym (collect-any put (x .table)));
     }

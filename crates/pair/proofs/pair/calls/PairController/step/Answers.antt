@@ -10,5 +10,5 @@ returns g c =
     let x = view (g .A·Controller .state) (g .B·Controller .state) (c .args .self .now) in
     record {
       answer = step-is pair-codes pair-of pair-back r x _ (sym (c .pass .ensures .answer));
-      after = after-is pair-codes pair-of pair-back r Call.step x _ (c .pass .ensures .after ∙ ap (λ v. accepted v (r .stepped x) x) (c .pass .ensures .answer))
+      after = after-is pair-codes pair-of pair-back r Call.step x _ (c .pass .ensures .after ∙ ap (λ v. accepted v (r .stepped x) x) (c .pass .ensures .answer));
     }

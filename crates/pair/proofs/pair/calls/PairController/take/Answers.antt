@@ -16,5 +16,5 @@ returns g c =
     let a : take-refusal r x q ≡ refused (c .hold .result) = admission-is r x q (span-of m n x) (x .table) refl (pair-places m n (g .A·Controller·met .lawful) x) ∙ sym (c .hold .ensures .answer) in
     record {
       answer = take-is pair-codes pair-of pair-back r q x _ a;
-      after = after-is pair-codes pair-of pair-back r (Call.take q) x _ (c .hold .ensures .after ∙ ap (λ v. accepted v (r .taken x q) x) (sym a))
+      after = after-is pair-codes pair-of pair-back r (Call.take q) x _ (c .hold .ensures .after ∙ ap (λ v. accepted v (r .taken x q) x) (sym a));
     }
