@@ -79,7 +79,7 @@ abbrev is-issue : Event → Bool
 is-issue (Issue n) = true
 is-issue (Done n) = false
 
-abbrev is-done : Event → Bool
+abbrev pub is-done : Event → Bool
 is-done (Issue n) = false
 is-done (Done n) = true
 
@@ -99,7 +99,7 @@ ends-of-at n (Issue m) ds t false k ih = ih
 ends-of-at n (Done m) ds t true k ih = ap (λ b. b || t) k
 ends-of-at n (Done m) ds t false k ih = ap (λ b. b || t) k ∙ ih
 
-ends-of : (n : ℕ) (es : List Event) → any (ends n) es ≡ any is-done (events-of n es)
+pub ends-of : (n : ℕ) (es : List Event) → any (ends n) es ≡ any is-done (events-of n es)
 ends-of n [] = refl
 ends-of n (e ∷ es) = ends-of-at n e (events-of n es) (any (ends n) es) (eqb (slot-of e) n) refl (ends-of n es)
 

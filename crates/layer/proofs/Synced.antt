@@ -39,7 +39,7 @@ taken-is r s q ok = ap (λ v. accepted v (r .taken s q) s) ok
 stepped-is : {S : Type 0} (r : Meaning S) (s : S) → r .ready s ≡ [] → after r Call.step s ≡ r .stepped s
 stepped-is r s e = ap (λ es. accepted (check (not (is-empty es)) 20 None) (r .stepped s) s) e
 
-collected-is : {S : Type 0} (r : Meaning S) (s : S) → is-empty (r .ready s) ≡ false → after r Call.collect s ≡ r .collected s
+pub collected-is : {S : Type 0} (r : Meaning S) (s : S) → is-empty (r .ready s) ≡ false → after r Call.collect s ≡ r .collected s
 collected-is r s e = ap (λ b. cond b s (r .collected s)) e
 
 -- a layer's refusals are those of its table
@@ -208,16 +208,22 @@ module _ (r : Meaning (List ℕ)) (l : Lawful r) where
     pub synced-start : (b : List ℕ) → Synced r other (r .start b) []
     synced-start b = record { re = (b, [], refl); quiet = l .start-ready b; sync = l .start-held b }
 
-    -- a request that goes to this controller
-    pub synced-take : (b : List ℕ) (ws : List Entry) (q : Request) → Synced r other b ws → other q ≡ false → in-range q ≡ true → any (has (q .slot)) ws ≡ false → length ws < r .places b
-        → Synced r other (after r (Call.take q) b) (ws ++ (new-entry q ∷ []))
-    synced-take b ws q g o ok free room =
+    -- a request that goes to this controller is not refused
+    pub take-accepted : (b : List ℕ) (ws : List Entry) (q : Request) → Synced r other b ws → in-range q ≡ true → any (has (q .slot)) ws ≡ false → length ws < r .places b → take-refusal r b q ≡ None
+    take-accepted b ws q g ok free room =
         let p = r .span b in
         let us = failing (away other) ws in
         let x = length-map us (reading p) in
         let y = length-failing (away other) ws in
         let z = ap length (g .sync) in
-        let fine = take-fine r b q ok (ap (any (has-slot (q .slot))) (g .sync) ∙ some-entries slot-of-entry (reading p) (λ w. refl) (q .slot) us ∙ some-failing slot-of-entry (away other) (q .slot) ws free) (omega arith) in
+        take-fine r b q ok (ap (any (has-slot (q .slot))) (g .sync) ∙ some-entries slot-of-entry (reading p) (λ w. refl) (q .slot) us ∙ some-failing slot-of-entry (away other) (q .slot) ws free) (omega arith)
+
+    pub synced-take : (b : List ℕ) (ws : List Entry) (q : Request) → Synced r other b ws → other q ≡ false → in-range q ≡ true → any (has (q .slot)) ws ≡ false → length ws < r .places b
+        → Synced r other (after r (Call.take q) b) (ws ++ (new-entry q ∷ []))
+    synced-take b ws q g o ok free room =
+        let p = r .span b in
+        let us = failing (away other) ws in
+        let fine = take-accepted b ws q g ok free room in
         let c = taken-is r b q fine in
         record {
           re = reached-after r (Call.take q) b (g .re);

@@ -1,3 +1,4 @@
 pub mod Entries
 pub mod Forwards
 pub mod Contents
+pub mod Collects

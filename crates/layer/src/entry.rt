@@ -1,4 +1,4 @@
-// A request that a layer holds.
+// A request that a layer holds, and searches among those.
 ghost use mathlib.Core.Path.{_≡_};
 ghost use mathlib.Core.List.{List, [], _∷_, map};
 ghost use Rattle.interface.specs.Slots.{place, has-in};

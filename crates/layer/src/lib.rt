@@ -1,8 +1,7 @@
-// What the layers over controllers share: the table of the requests that a layer holds, and of the events it has ready.
+// What the layers over controllers share: the table of the requests that a layer holds, and of the events that it has ready.
 mod entry;
 mod forward;
 mod table;
 
-pub use entry::Entry;
 pub use forward::Forward;
 pub use table::Table;

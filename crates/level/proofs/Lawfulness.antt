@@ -9,7 +9,7 @@ use lib.ListN.{length, length-map, length-append}
 use borrow.Author.Tests.{both-ways, le-leb}
 use Rattle.std.specs.declared.option.Option.{Option}
 use Rattle.std.specs.declared.option.Option.the-variants.{Some, None}
-use Rattle.interface.specs.Meaning.{Meaning, Call, after, Reached, first, rest, is-empty, any, take-refusal, step-refusal, accepted}
+use Rattle.interface.specs.Meaning.{Meaning, Call, after, Reached, first, is-empty, any, in-range, take-refusal, step-refusal, accepted}
 use Rattle.interface.specs.Lawful.{Lawful, issues, ends, aged, fresh, standing, events-of, Proper, Punctual}
 use Rattle.interface.specs.declared.Request.{Request}
 use Rattle.interface.specs.declared.Event.{Event}
@@ -33,10 +33,10 @@ use Rattle.level.proofs.States.{state-path}
 
 -- ---- Issues that are handed on
 
-traced-issues : (es ds : List Event) (ws : List Entry) → Traced slot-of-entry done-below ds ws → Traced slot-of-entry done-below (forwarded Issues es ++ ds) ws
-traced-issues [] ds ws t = t
-traced-issues (Issue n ∷ es) ds ws t = traced-issues es ds ws t
-traced-issues (Done n ∷ es) ds ws t = traced-issues es ds ws t
+pub traced-issues : (p : Entry → Bool) (es ds : List Event) (ws : List Entry) → Traced slot-of-entry p ds ws → Traced slot-of-entry p (forwarded Issues es ++ ds) ws
+traced-issues p [] ds ws t = t
+traced-issues p (Issue n ∷ es) ds ws t = traced-issues p es ds ws t
+traced-issues p (Done n ∷ es) ds ws t = traced-issues p es ds ws t
 
 issues-forwarded : (n : ℕ) (es : List Event) → any (issues n) (forwarded Issues es) ≡ any (issues n) es
 issues-forwarded n [] = refl
@@ -70,26 +70,38 @@ pub record Good (r : Meaning (List ℕ)) (s : State) : Type 0 where
   pub traced : Traced slot-of-entry done-below (s .table .events) (s .table .held)
 
 module _ (r : Meaning (List ℕ)) (l : Lawful r) (short : (s : List ℕ) → r .span s < 2 ^ 64) where
-  good-start : (s : State) → Good r (meaning-over r .start s)
+  pub good-start : (s : State) → Good r (meaning-over r .start s)
   good-start s = record { synced = synced-start r l nobody (s .below); apart = tt; few = omega arith; issued = tt; traced = tt }
 
-  good-take : (s : State) (q : Request) → Good r s → take-refusal (meaning-over r) s q ≡ None → Good r (meaning-over r .taken s q)
-  good-take s q g ok =
+  -- what an accepted take says
+  pub record Fine (s : State) (q : Request) : Type 0 where
+    pub range : in-range q ≡ true
+    pub free : any (has (q .slot)) (s .table .held) ≡ false
+    pub room : length (s .table .held) < r .places (s .below)
+
+  pub fine : (s : State) (q : Request) → take-refusal (meaning-over r) s q ≡ None → Fine s q
+  fine s q ok =
       let ws = s .table .held in
       let t = take-ok (meaning-over r) s q ok in
-      let free : any (has (q .slot)) ws ≡ false = sym (some-entries slot-of-entry (reading (span-over r s)) (λ w. refl) (q .slot) ws) ∙ t .1 in
       let a = length-map ws (reading (span-over r s)) in
-      let h = l .places-most (s .below) in
       let few = t .2 in
+      record { range = t .0; free = sym (some-entries slot-of-entry (reading (span-over r s)) (λ w. refl) (q .slot) ws) ∙ t .1; room = omega arith }
+
+  pub good-take : (s : State) (q : Request) → Good r s → take-refusal (meaning-over r) s q ≡ None → Good r (meaning-over r .taken s q)
+  good-take s q g ok =
+      let ws = s .table .held in
+      let f = fine s q ok in
+      let h = l .places-most (s .below) in
+      let room = f .room in
       record {
-        synced = synced-take r l nobody (s .below) ws q (g .synced) refl (t .0) free (omega arith);
-        apart = apart-append slot-of-entry ws (new-entry q) (g .apart) free;
+        synced = synced-take r l nobody (s .below) ws q (g .synced) refl (f .range) (f .free) room;
+        apart = apart-append slot-of-entry ws (new-entry q) (g .apart) (f .free);
         few = simp length-append (omega arith);
         issued = done-issued-append ws q (g .issued);
         traced = traced-append slot-of-entry done-below (s .table .events) ws (new-entry q) (g .traced);
       }
 
-  good-collect : (s : State) (es : List Event) → Good r s → Traced slot-of-entry done-below es (s .table .held) → Good r (record { delay = s .delay; table = collected (record { held = s .table .held; events = es }); below = s .below })
+  pub good-collect : (s : State) (es : List Event) → Good r s → Traced slot-of-entry done-below es (s .table .held) → Good r (record { delay = s .delay; table = collected (record { held = s .table .held; events = es }); below = s .below })
   good-collect s [] g t = record { synced = g .synced; apart = g .apart; few = g .few; issued = g .issued; traced = tt }
   good-collect s (Issue n ∷ es) g t = record { synced = g .synced; apart = g .apart; few = g .few; issued = g .issued; traced = t }
   good-collect s (Done n ∷ es) g t =
@@ -117,10 +129,10 @@ module _ (r : Meaning (List ℕ)) (l : Lawful r) (short : (s : List ℕ) → r .
     below = below-after r l (s .below);
   }
 
-  heard : (s : State) → Good r s → EachProper nobody (events-of-step s) (s .table .held)
+  pub heard : (s : State) → Good r s → EachProper nobody (events-of-step s) (s .table .held)
   heard s g = proper-heard r l nobody (s .below) (s .table .held) (g .synced) (g .apart)
 
-  others : (s : State) → Good r s → (n : ℕ) → any (has n) (s .table .held) ≡ false → events-of n (events-of-step s) ≡ []
+  pub others : (s : State) → Good r s → (n : ℕ) → any (has n) (s .table .held) ≡ false → events-of n (events-of-step s) ≡ []
   others s g = none-heard r l nobody (s .below) (s .table .held) (g .synced)
 
   pub tidy-is : (s : State) → Good r s → s .table .events ≡ [] → meaning-over r .stepped s ≡ tidy s
@@ -142,7 +154,7 @@ module _ (r : Meaning (List ℕ)) (l : Lawful r) (short : (s : List ℕ) → r .
       ∙ all-added-is (dones-due (wait s) vs) (forwarded Issues es) (omega arith)))
       refl
 
-  good-tidy : (s : State) → Good r s → Good r (tidy s)
+  pub good-tidy : (s : State) → Good r s → Good r (tidy s)
   good-tidy s g =
       let es = events-of-step s in
       let ws = s .table .held in
@@ -154,7 +166,7 @@ module _ (r : Meaning (List ℕ)) (l : Lawful r) (short : (s : List ℕ) → r .
         apart = apart;
         few = omega arith;
         issued = done-issued-step es ws (g .issued) (heard s g);
-        traced = traced-issues es (dones-due (wait s) (map (moved es) ws)) (map (moved es) ws) (traced-dones slot-of-entry done-below (is-due (wait s)) (λ w e. and-left _ _ e) (map (moved es) ws) apart);
+        traced = traced-issues done-below es (dones-due (wait s) (map (moved es) ws)) (map (moved es) ws) (traced-dones slot-of-entry done-below (is-due (wait s)) (λ w e. and-left _ _ e) (map (moved es) ws) apart);
       }
 
   good-step : (s : State) → Good r s → s .table .events ≡ [] → Good r (meaning-over r .stepped s)
@@ -179,7 +191,7 @@ module _ (r : Meaning (List ℕ)) (l : Lawful r) (short : (s : List ℕ) → r .
       ∙ map-moved (span-over r s) es (tidy s .table .events) (s .table .held) (span-fits s)
       (λ n. issues-append n (forwarded Issues es) ds (issues-none slot-of-entry (is-due (wait s)) n (map (moved es) (s .table .held))) ∙ issues-forwarded n es)
 
-  proper-tidy : (s : State) → Good r s → (n : ℕ) → Proper (standing n (meaning-over r .held s)) (events-of n (tidy s .table .events))
+  pub proper-tidy : (s : State) → Good r s → (n : ℕ) → Proper (standing n (meaning-over r .held s)) (events-of n (tidy s .table .events))
   proper-tidy s g n =
       let es = events-of-step s in
       let ds = dones-due (wait s) (map (moved es) (s .table .held)) in

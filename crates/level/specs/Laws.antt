@@ -6,15 +6,10 @@ use Prim.Native.Nat.{ℕ, _+_, _-_, _≤_, max}
 use lib.Dec.{eqb}
 use Rattle.interface.specs.Meaning.{Meaning, Call, after, accepted, take-refusal, step-refusal}
 use Rattle.interface.specs.History.{History, Taking, Occurrence, history}
-use Rattle.interface.specs.declared.Event.{Event}
+use Rattle.layer.specs.Collects.{collects}
 use Rattle.level.specs.Level.{State, beginning, meaning-over, level-codes, level-meaning}
 
 -- ---- the calls that a level makes to the controller below
-
--- collects until nothing is ready, where the events es are
-abbrev pub collects : List Event → List Call
-collects [] = Call.collect ∷ []
-collects (e ∷ es) = Call.collect ∷ collects es
 
 -- in a call that finds the state s
 abbrev pub passed-down : Meaning (List ℕ) → Call → State → List Call

@@ -4,7 +4,7 @@ use layer::Table;
 mod calls;
 
 pub use calls::LevelController;
-pub use calls::LevelSpan;
+pub use calls::LevelCountableSpan;
 
 #[derive(Drop)]
 pub struct Level<C> {

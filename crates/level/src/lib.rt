@@ -3,4 +3,4 @@ mod level;
 
 pub use level::Level;
 pub use level::LevelController;
-pub use level::LevelSpan;
+pub use level::LevelCountableSpan;

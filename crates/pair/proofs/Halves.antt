@@ -12,12 +12,13 @@ use Rattle.interface.specs.Slots.{has-in, dropped, failing}
 use Rattle.interface.specs.declared.Request.{Request}
 use Rattle.interface.specs.declared.Event.{Event}
 use Rattle.interface.specs.declared.Event.the-variants.{Issue, Done}
-use Rattle.interface.proofs.Bools.{or-false, or-left, or-true, or-right, same, eqb-comm}
-use Rattle.interface.proofs.Slots.{Apart, events-of-append, marked, Traced, ends-append, ends-before}
+use Rattle.interface.proofs.Bools.{or-left, or-true, or-right, same}
+use Rattle.interface.proofs.Slots.{events-of-append, marked, Traced, ends-append, ends-before}
 use Rattle.layer.specs.declared.entry.Entry.{Entry}
-use Rattle.layer.specs.Entries.{new-entry, slot-of-entry, done-below, reading}
+use Rattle.layer.specs.Entries.{slot-of-entry, done-below, reading}
 use Rattle.layer.proofs.Tables.{any-append}
 use Rattle.layer.proofs.Hearing.{has, moved, away, nobody, stage, EachProper, absent-none, no-issues, no-ends}
+use Rattle.layer.proofs.Readiness.{Ready}
 use Rattle.layer.proofs.Synced.{Agree, EachPunctual}
 
 -- ---- the events of both
@@ -162,38 +163,11 @@ traced-heard es ws p h = traced-once es (map (moved es) ws) (once es (λ n. (sta
 
 -- ---- a request that is done has its Done ready
 
-abbrev pub DoneReady : List Event → List Entry → Type 0
-DoneReady es [] = Unit {0}
-DoneReady es (w ∷ ws) = (w .done ≡ true → any (ends (w .request .slot)) es ≡ true) × DoneReady es ws
-
-pub done-ready-append : (es : List Event) (ws : List Entry) (q : Request) → DoneReady es ws → DoneReady es (ws ++ (new-entry q ∷ []))
-done-ready-append es [] q r = (λ e. absurd (both-ways false refl e), tt)
-done-ready-append es (w ∷ ws) q r = (r .0, done-ready-append es ws q (r .1))
-
-pub done-ready-issue : (n : ℕ) (es : List Event) (ws : List Entry) → DoneReady (Issue n ∷ es) ws → DoneReady es ws
-done-ready-issue n es [] r = tt
-done-ready-issue n es (w ∷ ws) r = (r .0, done-ready-issue n es ws (r .1))
-
-done-others : (n : ℕ) (es : List Event) (ws : List Entry) → any (has n) ws ≡ false → DoneReady (Done n ∷ es) ws → DoneReady es ws
-done-others n es [] a r = tt
-done-others n es (w ∷ ws) a r =
-    let j = or-false (has n w) _ a in
-    (λ e. sym (ap (λ b. b || any (ends (w .request .slot)) es) (eqb-comm n (w .request .slot) ∙ j .0)) ∙ r .0 e, done-others n es ws (j .1) (r .1))
-
-done-ready-dropped-at : (n : ℕ) (es : List Event) (w : Entry) (ws : List Entry) (b : Bool) → has n w ≡ b → any (has (w .request .slot)) ws ≡ false → (w .done ≡ true → (eqb n (w .request .slot) || any (ends (w .request .slot)) es) ≡ true)
-    → DoneReady (Done n ∷ es) ws → DoneReady es (dropped slot-of-entry n ws) → DoneReady es (cond b ws (w ∷ dropped slot-of-entry n ws))
-done-ready-dropped-at n es w ws true k a r rs ih = done-others n es ws (ap (λ j. any (has j) ws) (sym (eqb-true (w .request .slot) n k)) ∙ a) rs
-done-ready-dropped-at n es w ws false k a r rs ih = (λ e. sym (ap (λ b. b || any (ends (w .request .slot)) es) (eqb-comm n (w .request .slot) ∙ k)) ∙ r e, ih)
-
-pub done-ready-dropped : (n : ℕ) (es : List Event) (ws : List Entry) → Apart slot-of-entry ws → DoneReady (Done n ∷ es) ws → DoneReady es (dropped slot-of-entry n ws)
-done-ready-dropped n es [] a r = tt
-done-ready-dropped n es (w ∷ ws) a r = done-ready-dropped-at n es w ws (has n w) refl (a .0) (r .0) (r .1) (done-ready-dropped n es ws (a .1) (r .1))
-
 done-ready-one : (d t : Bool) → (d ≡ true → false ≡ true) → (d || t) ≡ true → t ≡ true
 done-ready-one true t h e = absurd (both-ways false refl (h refl))
 done-ready-one false t h e = e
 
-pub done-ready-step : (es : List Event) (ws : List Entry) → DoneReady [] ws → DoneReady es (map (moved es) ws)
+pub done-ready-step : (es : List Event) (ws : List Entry) → Ready done-below [] ws → Ready done-below es (map (moved es) ws)
 done-ready-step es [] r = tt
 done-ready-step es (w ∷ ws) r = (done-ready-one (w .done) (any (ends (w .request .slot)) es) (r .0), done-ready-step es ws (r .1))
 
@@ -207,7 +181,7 @@ in-time : (o d : Bool) (n : ℕ) (es ds : List Event) (X Y : Type 0) → d ≡ f
 in-time true d n es ds X Y e x y p q = ends-append n es ds (q e y)
 in-time false d n es ds X Y e x y p q = ends-before n es ds (p e x)
 
-pub punctual-both : (other : Request → Bool) (a b q : ℕ) (es ds : List Event) (ws : List Entry) → q < 2 ^ 64 → a ≤ q → b ≤ q → DoneReady [] ws → EachPunctual other a es ws → EachPunctual (opposite other) b ds ws
+pub punctual-both : (other : Request → Bool) (a b q : ℕ) (es ds : List Event) (ws : List Entry) → q < 2 ^ 64 → a ≤ q → b ≤ q → Ready done-below [] ws → EachPunctual other a es ws → EachPunctual (opposite other) b ds ws
     → Punctual (map (reading q) (map (moved (es ++ ds)) ws)) (es ++ ds)
 punctual-both other a b q es ds [] hq ha hb r s t = tt
 punctual-both other a b q es ds (w ∷ ws) hq ha hb r s t = (

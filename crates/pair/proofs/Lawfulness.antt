@@ -24,35 +24,36 @@ use Rattle.layer.specs.Contents.{Contents, all-added, collected}
 use Rattle.layer.proofs.Tables.{contents-path, map-fuse, updated-append}
 use Rattle.layer.proofs.Hearing.{has, moved, nobody, EachProper, proper-all}
 use Rattle.layer.proofs.Counts.{all-added-is, forwarded-all, few-events}
+use Rattle.layer.proofs.Readiness.{Ready, ready-append, ready-issue, ready-dropped}
 use Rattle.layer.proofs.Synced.{Synced, map-moved, new-reading, events-below, below-after, span-after, span-step, start-step, synced-start, synced-take, synced-other, synced-drop, synced-step, proper-heard, none-heard, punctual-heard}
 use Rattle.pair.specs.Pair.{State, beginning, to-first, span-of, meaning-of, pair-codes, pair-of, pair-back, pair-meaning}
-use Rattle.pair.proofs.Halves.{opposite, each-of-two, agree-first, agree-second, none-of-two, traced-heard, DoneReady, done-ready-append, done-ready-issue, done-ready-dropped, done-ready-step, punctual-both}
+use Rattle.pair.proofs.Halves.{opposite, each-of-two, agree-first, agree-second, none-of-two, traced-heard, done-ready-step, punctual-both}
 
 state-path : (a b : State) → a .table ≡ b .table → a .first ≡ b .first → a .second ≡ b .second → a ≡ b
 state-path a b t p q = λ i. record { table = t i; first = p i; second = q i }
 
 -- the requests that the first controller does not get, and those that the second does not
-abbrev not-first : Request → Bool
+abbrev pub not-first : Request → Bool
 not-first q = not (to-first q)
 
-abbrev not-second : Request → Bool
+abbrev pub not-second : Request → Bool
 not-second = opposite not-first
 
 -- ---- what holds of every pair
 
-record Good (m n : Meaning (List ℕ)) (s : State) : Type 0 where
-  one : Synced m not-first (s .first) (s .table .held)
-  two : Synced n not-second (s .second) (s .table .held)
-  apart : Apart slot-of-entry (s .table .held)
-  few : length (s .table .held) ≤ 32
-  ready : DoneReady (s .table .events) (s .table .held)
-  traced : Traced slot-of-entry done-below (s .table .events) (s .table .held)
+pub record Good (m n : Meaning (List ℕ)) (s : State) : Type 0 where
+  pub one : Synced m not-first (s .first) (s .table .held)
+  pub two : Synced n not-second (s .second) (s .table .held)
+  pub apart : Apart slot-of-entry (s .table .held)
+  pub few : length (s .table .held) ≤ 32
+  pub ready : Ready done-below (s .table .events) (s .table .held)
+  pub traced : Traced slot-of-entry done-below (s .table .events) (s .table .held)
 
 module _ (m n : Meaning (List ℕ)) (k : Lawful m) (l : Lawful n) (short : (s : List ℕ) → m .span s < 2 ^ 64) (brief : (s : List ℕ) → n .span s < 2 ^ 64) where
   abbrev r : Meaning State
   r = meaning-of m n
 
-  good-start : (s : State) → Good m n (r .start s)
+  pub good-start : (s : State) → Good m n (r .start s)
   good-start s = record { one = synced-start m k not-first (s .first); two = synced-start n l not-second (s .second); apart = tt; few = omega arith; ready = tt; traced = tt }
 
   take-first : (s : State) (q : Request) (b : Bool) → to-first q ≡ b → Good m n s → in-range q ≡ true → any (has (q .slot)) (s .table .held) ≡ false → length (s .table .held) < m .places (s .first)
@@ -65,27 +66,40 @@ module _ (m n : Meaning (List ℕ)) (k : Lawful m) (l : Lawful n) (short : (s : 
   take-second s q true e g ok free room = synced-other n l not-second (s .second) (s .table .held) q (g .two) (ap (λ b. not (not b)) e)
   take-second s q false e g ok free room = synced-take n l not-second (s .second) (s .table .held) q (g .two) (ap (λ b. not (not b)) e) ok free room
 
-  good-take : (s : State) (q : Request) → Good m n s → take-refusal r s q ≡ None → Good m n (r .taken s q)
-  good-take s q g ok =
+  -- what an accepted take says
+  pub record Fine (s : State) (q : Request) : Type 0 where
+    pub range : in-range q ≡ true
+    pub free : any (has (q .slot)) (s .table .held) ≡ false
+    pub room-first : length (s .table .held) < m .places (s .first)
+    pub room-second : length (s .table .held) < n .places (s .second)
+
+  pub fine : (s : State) (q : Request) → take-refusal r s q ≡ None → Fine s q
+  fine s q ok =
       let ws = s .table .held in
       let t = take-ok r s q ok in
-      let free : any (has (q .slot)) ws ≡ false = sym (some-entries slot-of-entry (reading (span-of m n s)) (λ w. refl) (q .slot) ws) ∙ t .1 in
       let a = length-map ws (reading (span-of m n s)) in
-      let h = k .places-most (s .first) in
       let few = t .2 in
+      record { range = t .0; free = sym (some-entries slot-of-entry (reading (span-of m n s)) (λ w. refl) (q .slot) ws) ∙ t .1; room-first = omega arith; room-second = omega arith }
+
+  pub good-take : (s : State) (q : Request) → Good m n s → take-refusal r s q ≡ None → Good m n (r .taken s q)
+  good-take s q g ok =
+      let ws = s .table .held in
+      let f = fine s q ok in
+      let h = k .places-most (s .first) in
+      let room = f .room-first in
       record {
-        one = take-first s q (to-first q) refl g (t .0) free (omega arith);
-        two = take-second s q (to-first q) refl g (t .0) free (omega arith);
-        apart = apart-append slot-of-entry ws (new-entry q) (g .apart) free;
+        one = take-first s q (to-first q) refl g (f .range) (f .free) room;
+        two = take-second s q (to-first q) refl g (f .range) (f .free) (f .room-second);
+        apart = apart-append slot-of-entry ws (new-entry q) (g .apart) (f .free);
         few = simp length-append (omega arith);
-        ready = done-ready-append (s .table .events) ws q (g .ready);
+        ready = ready-append done-below (s .table .events) ws q refl (g .ready);
         traced = traced-append slot-of-entry done-below (s .table .events) ws (new-entry q) (g .traced);
       }
 
-  good-collect : (s : State) (es : List Event) → Good m n s → DoneReady es (s .table .held) → Traced slot-of-entry done-below es (s .table .held)
+  pub good-collect : (s : State) (es : List Event) → Good m n s → Ready done-below es (s .table .held) → Traced slot-of-entry done-below es (s .table .held)
       → Good m n (record { table = collected (record { held = s .table .held; events = es }); first = s .first; second = s .second })
   good-collect s [] g d t = record { one = g .one; two = g .two; apart = g .apart; few = g .few; ready = d; traced = tt }
-  good-collect s (Issue i ∷ es) g d t = record { one = g .one; two = g .two; apart = g .apart; few = g .few; ready = done-ready-issue i es (s .table .held) d; traced = t }
+  good-collect s (Issue i ∷ es) g d t = record { one = g .one; two = g .two; apart = g .apart; few = g .few; ready = ready-issue done-below i es (s .table .held) d; traced = t }
   good-collect s (Done i ∷ es) g d t =
       let ws = s .table .held in
       let a = length-dropped slot-of-entry i ws in
@@ -95,23 +109,23 @@ module _ (m n : Meaning (List ℕ)) (k : Lawful m) (l : Lawful n) (short : (s : 
         two = synced-drop n l not-second (s .second) ws i (g .two) (g .apart) (t .0);
         apart = apart-dropped slot-of-entry i ws (g .apart);
         few = omega arith;
-        ready = done-ready-dropped i es ws (g .apart) d;
+        ready = ready-dropped done-below i es ws (g .apart) d;
         traced = t .1;
       }
 
   -- ---- a step
 
-  abbrev of-first : State → List Event
+  abbrev pub of-first : State → List Event
   of-first s = events-below m k (s .first)
 
-  abbrev of-second : State → List Event
+  abbrev pub of-second : State → List Event
   of-second s = events-below n l (s .second)
 
-  abbrev of-both : State → List Event
+  abbrev pub of-both : State → List Event
   of-both s = of-first s ++ of-second s
 
   -- a step, with room for all events
-  abbrev tidy : State → State
+  abbrev pub tidy : State → State
   tidy s = record {
     table = record { held = map (moved (of-both s)) (s .table .held); events = of-both s };
     first = below-after m k (s .first);
@@ -130,7 +144,7 @@ module _ (m n : Meaning (List ℕ)) (k : Lawful m) (l : Lawful n) (short : (s : 
   others : (s : State) → Good m n s → (i : ℕ) → any (has i) (s .table .held) ≡ false → events-of i (of-both s) ≡ []
   others s g i e = none-of-two i (of-first s) (of-second s) (none-heard m k not-first (s .first) (s .table .held) (g .one) i e) (none-heard n l not-second (s .second) (s .table .held) (g .two) i e)
 
-  tidy-is : (s : State) → Good m n s → s .table .events ≡ [] → r .stepped s ≡ tidy s
+  pub tidy-is : (s : State) → Good m n s → s .table .events ≡ [] → r .stepped s ≡ tidy s
   tidy-is s g e =
       let es = of-first s in
       let ds = of-second s in
@@ -151,7 +165,7 @@ module _ (m n : Meaning (List ℕ)) (k : Lawful m) (l : Lawful n) (short : (s : 
   proper-tidy : (s : State) → Good m n s → (p i : ℕ) → Proper (standing i (map (reading p) (s .table .held))) (events-of i (of-both s))
   proper-tidy s g p i = proper-all i p (of-both s) (s .table .held) (heard s g) (others s g i)
 
-  good-tidy : (s : State) → Good m n s → DoneReady [] (s .table .held) → Good m n (tidy s)
+  pub good-tidy : (s : State) → Good m n s → Ready done-below [] (s .table .held) → Good m n (tidy s)
   good-tidy s g d =
       let ws = s .table .held in
       let f = g .few in
@@ -165,8 +179,8 @@ module _ (m n : Meaning (List ℕ)) (k : Lawful m) (l : Lawful n) (short : (s : 
         traced = traced-heard (of-both s) ws (proper-tidy s g 0) (others s g);
       }
 
-  none-done : (s : State) → Good m n s → s .table .events ≡ [] → DoneReady [] (s .table .held)
-  none-done s g e = subst (λ es. DoneReady es (s .table .held)) e (g .ready)
+  pub none-done : (s : State) → Good m n s → s .table .events ≡ [] → Ready done-below [] (s .table .held)
+  none-done s g e = subst (λ es. Ready done-below es (s .table .held)) e (g .ready)
 
   good-step : (s : State) → Good m n s → s .table .events ≡ [] → Good m n (r .stepped s)
   good-step s g e = subst (Good m n) (sym (tidy-is s g e)) (good-tidy s g (none-done s g e))
@@ -187,7 +201,7 @@ module _ (m n : Meaning (List ℕ)) (k : Lawful m) (l : Lawful n) (short : (s : 
       ap (λ x. map (reading x) (map (moved (of-both s)) (s .table .held))) (span-tidy s)
       ∙ map-moved (span-of m n s) (of-both s) (of-both s) (s .table .held) (span-fits s) (λ i. refl)
 
-  punctual-tidy : (s : State) → Good m n s → DoneReady [] (s .table .held) → Punctual (r .held (tidy s)) (of-both s)
+  punctual-tidy : (s : State) → Good m n s → Ready done-below [] (s .table .held) → Punctual (r .held (tidy s)) (of-both s)
   punctual-tidy s g d =
       subst (λ x. Punctual (map (reading x) (map (moved (of-both s)) (s .table .held))) (of-both s)) (sym (span-tidy s))
       (punctual-both not-first (m .span (s .first)) (n .span (s .second)) (span-of m n s) (of-first s) (of-second s) (s .table .held) (span-fits s) (omega arith) (omega arith) d

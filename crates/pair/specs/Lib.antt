@@ -1,1 +1,2 @@
 pub mod Pair
+pub mod Laws

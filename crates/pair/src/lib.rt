@@ -3,4 +3,4 @@ mod pair;
 
 pub use pair::Pair;
 pub use pair::PairController;
-pub use pair::PairSpan;
+pub use pair::PairCountableSpan;

@@ -4,7 +4,7 @@ use layer::Table;
 mod calls;
 
 pub use calls::PairController;
-pub use calls::PairSpan;
+pub use calls::PairCountableSpan;
 
 #[derive(Drop)]
 pub struct Pair<A, B> {

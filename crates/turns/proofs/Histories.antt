@@ -1,37 +1,35 @@
 -- The controller by turns keeps its laws over whole histories.
 use mathlib.Core.Path.{_≡_, refl, sym, ap, _∙_, subst}
 use mathlib.Core.List.{List, [], _∷_, _++_, map, append-nil}
-use mathlib.Core.Bool.{Bool, true, false, cond}
-use Prim.Native.Nat.{ℕ, _+_, _*_, _/_, _%_, _≤_, _<_}
+use mathlib.Core.Bool.{Bool, true, false}
+use Prim.Native.Nat.{ℕ, _+_, _-_, _/_, _%_}
 use native.Mathlib.Omega.{arith}
-use native.Mathlib.Numerals.{add-one}
 use lib.Dec.{eqb}
-use borrow.Author.Tests.{eqb-true, eqb-false, ne-eqb}
+use borrow.Author.Tests.{eqb-true, eqb-false}
 use Rattle.std.specs.declared.option.Option.{Option}
 use Rattle.std.specs.declared.option.Option.the-variants.{Some, None}
-use Rattle.interface.specs.Meaning.{Call, any, first, rest, take-refusal}
-use Rattle.interface.specs.Lawful.{ends}
-use Rattle.interface.specs.History.{History, Taking, Occurrence, Issuance, blank, with-taking, with-step, history, issued-in, ended-in, Served, issuances}
-use Rattle.interface.specs.Slots.{dropped}
+use Rattle.interface.specs.Meaning.{Call, first, rest, take-refusal}
+use Rattle.interface.specs.History.{History, Taking, Occurrence, Issuance, blank, with-taking, with-step, history, ended-in, Served, issuances}
+use Rattle.interface.specs.Slots.{dropped-by}
 use Rattle.interface.specs.declared.Request.{Request}
 use Rattle.interface.specs.declared.Event.{Event}
 use Rattle.interface.specs.declared.Event.the-variants.{Issue, Done}
+use Rattle.interface.proofs.Emptying.{first-some, first-none}
 use Rattle.interface.proofs.Takes.{take-ok}
-use Rattle.interface.proofs.Slots.{Apart, Traced, traced-dones, traced-append, some-entries, ends-before}
+use Rattle.interface.proofs.Slots.{Apart, Traced, some-entries}
 use Rattle.interface.proofs.Traces.{history-keeps, history-coded}
 use Rattle.held.specs.declared.entries.Entry.{Entry}
-use Rattle.held.specs.Entries.{request-of, later, key, expired, dones, next-of, issue-next, reading-of, new-entry}
-use Rattle.held.specs.Rows.{Rows, passed, issue-of}
-use Rattle.held.proofs.Stepping.{apart-later, apart-issued}
+use Rattle.held.specs.Entries.{request-of, later, key, expired, done-delay, next-of, issue-next, reading-of}
+use Rattle.held.specs.Rows.{passed, issue-of}
 use Rattle.held.specs.Delays.{dones-before}
-use Rattle.held.proofs.Delaying.{traced-end, issued-dones, issued-append, countdowns, outstanding, finishing, lowered, NoneExpired, none-expired, ended-step, countdowns-later, countdowns-append, countdowns-dropped, finishing-outstanding, lowered-outstanding, AllReady, ready-append, ready-dropped, ready-dones, outstanding-append, outstanding-new, delay-least, dones-before-same, ended-issue}
 use Rattle.turns.specs.State.{State, turns-span, state-meaning, state-codes, state-of, state-back, turns-meaning}
-use Rattle.turns.specs.Laws.{issued, issued-among, occurrences, passing, taken-by, issued-for, Turn, Before, ByTurns, Issues-by-turns, Isolated, InTurn, Done-in-time}
+use Rattle.turns.specs.Laws.{issued, occurrences, passing, taken-by, issued-for, Turn, Before, ByTurns, Issues-by-turns, Isolated, InTurn, Done-in-time}
 use Rattle.turns.proofs.Lawfulness.{of, Sound, sound-start, sound-take, sound-collect, sound-step, after-turn, later-with, stepped-is, others}
-use Rattle.turns.proofs.Waiting.{passing-more, first-none, first-some, waiting, waiting-later, next-waiting, waiting-issued, waiting-others, waiting-taken, waiting-dropped}
+use Rattle.turns.proofs.Waiting.{passing-more, waiting, waiting-later, next-waiting, waiting-issued, waiting-others, waiting-taken, waiting-dropped}
 use Rattle.turns.proofs.Requests.{Past, past-more, past-append, among-take, among-issue, before-among, before-passing, occurrences-append, Owned, owned-more, owned-later, owned-issued, owned-dropped, owned-take, owned-next, next-class}
 use Rattle.turns.proofs.Parts.{Part, part-none, part-take, part-quiet, part-issue, served-once}
-use Rattle.turns.proofs.Spacing.{dones-issued, marked-issued, countdowns-alone, Spaced, spaced-append, none-outstanding}
+use Rattle.turns.proofs.Finishing.{Finishing, finishing-none, finishing-take, finishing-collect, finishing-pass, finishing-issue, counted-later, none-issued, one-issued}
+use Rattle.turns.proofs.Spacing.{marked-issued, countdowns-alone, Spaced, spaced-append, none-outstanding}
 
 -- a domain's part of a history, with the requests of it that wait
 abbrev PartOf : ℕ → State → History → Type 0
@@ -46,10 +44,7 @@ record Kept (s : State) (h : History) : Type 0 where
   requested : occurrences (issued h) ≡ h .issuings
   parts : (d : ℕ) → PartOf d s h
   spaced : Spaced (issued h)
-  announced : AllReady (s .rows .events) (s .rows .entries)
-  traced : Traced key expired (s .rows .events) (s .rows .entries)
-  counts : countdowns (s .rows .entries) ≡ outstanding (h .steps) (issued h)
-  ends : h .endings ≡ dones-before (h .steps) (issued h)
+  done : Finishing (s .rows) (h .steps) (issued h) (h .endings)
 
 kept-start : (s : State) → Kept (state-meaning .start s) blank
 kept-start s = record {
@@ -60,10 +55,7 @@ kept-start s = record {
   requested = refl;
   parts = part-none;
   spaced = tt;
-  announced = tt;
-  traced = tt;
-  counts = refl;
-  ends = refl;
+  done = finishing-none;
 }
 
 -- ---- a request is taken
@@ -97,81 +89,39 @@ kept-take s h q t ok =
       requested = ap occurrences same ∙ t .requested;
       parts = part-taken s h q (t .parts) same;
       spaced = subst Spaced (sym same) (t .spaced);
-      announced = ready-append (s .rows .events) hs turns-span q (t .announced);
-      traced = traced-append key expired (s .rows .events) hs (new-entry turns-span q) (t .traced);
-      counts = countdowns-append hs turns-span q ∙ t .counts ∙ ap (outstanding n) (sym same);
-      ends = t .ends ∙ ap (dones-before n) (sym same);
+      done = subst (λ is. Finishing (state-meaning .taken s q .rows) n is (h .endings)) (sym same) (finishing-take (s .rows) n (issued h) (h .endings) turns-span q (t .done));
     }
 
 -- ---- an event is collected
 
-abbrev state : List Entry → List Event → ℕ → State
-state hs es n = record { rows = record { entries = hs; events = es }; step = n }
+waiting-collected : (d : ℕ) (hs : List Entry) (es : List Event) → Apart key hs → Traced key expired es hs → waiting (of d) (dropped-by key (first es) hs) ≡ waiting (of d) hs
+waiting-collected d hs [] a t = refl
+waiting-collected d hs (Issue m ∷ es) a t = refl
+waiting-collected d hs (Done m ∷ es) a t = waiting-dropped (of d) m hs a (marked-issued m hs (t .0))
 
-kept-collect : (hs : List Entry) (es : List Event) (n : ℕ) (h : History) → Kept (state hs es n) h → Kept (state-meaning .collected (state hs es n)) h
-kept-collect hs [] n h t = record {
-  sound = sound-collect (state hs [] n) (t .sound);
-  count = t .count;
-  owned = t .owned;
-  past = t .past;
-  requested = t .requested;
-  parts = t .parts;
-  spaced = t .spaced;
-  announced = t .announced;
-  traced = tt;
-  counts = t .counts;
-  ends = t .ends;
-}
-kept-collect hs (Issue m ∷ es) n h t = record {
-  sound = sound-collect (state hs (Issue m ∷ es) n) (t .sound);
-  count = t .count;
-  owned = t .owned;
-  past = t .past;
-  requested = t .requested;
-  parts = t .parts;
-  spaced = t .spaced;
-  announced = t .announced;
-  traced = t .traced;
-  counts = t .counts;
-  ends = t .ends;
-}
-kept-collect hs (Done m ∷ es) n h t =
-    let apart = t .sound .apart in
-    let out = marked-issued m hs (t .traced .0) in
+owned-collected : (n : ℕ) (ks : List Taking) (o : Option Event) (hs : List Entry) → Owned n ks hs → Owned n ks (dropped-by key o hs)
+owned-collected n ks None hs w = w
+owned-collected n ks (Some (Issue m)) hs w = w
+owned-collected n ks (Some (Done m)) hs w = owned-dropped n m ks hs w
+
+kept-collect : (s : State) (h : History) → Kept s h → Kept (state-meaning .collected s) h
+kept-collect s h t =
+    let hs = s .rows .entries in
     record {
-      sound = sound-collect (state hs (Done m ∷ es) n) (t .sound);
+      sound = sound-collect s (t .sound);
       count = t .count;
-      owned = owned-dropped (h .steps) m (h .takings) hs (t .owned);
+      owned = owned-collected (h .steps) (h .takings) (first (s .rows .events)) hs (t .owned);
       past = t .past;
       requested = t .requested;
-      parts = λ d. subst (λ es. Part d (h .steps) (taken-by d h) (issued-for d h) (map request-of es)) (sym (waiting-dropped (of d) m hs apart out)) (t .parts d);
+      parts = λ d. subst (λ es. Part d (h .steps) (taken-by d h) (issued-for d h) (map request-of es)) (sym (waiting-collected d hs (s .rows .events) (t .sound .apart) (t .done .traced))) (t .parts d);
       spaced = t .spaced;
-      announced = ready-dropped m es hs apart (t .announced);
-      traced = t .traced .1;
-      counts = countdowns-dropped m hs apart (t .traced .0) ∙ t .counts;
-      ends = t .ends;
+      done = finishing-collect (s .rows) (h .steps) (issued h) (h .endings) (t .sound .apart) (t .done);
     }
 
 -- ---- a step
 
-passed-events : (t : Rows) → t .events ≡ [] → passed t .events ≡ dones (map later (t .entries))
-passed-events t e = ap (λ es. es ++ dones (map later (t .entries))) e
-
 before-issued : (s : State) (h : History) → Kept s h → Before (h .steps) (issued h)
 before-issued s h t = before-among (h .steps) (h .takings) (h .issuings) (t .past)
-
-none-expired-in : (s : State) (h : History) → Kept s h → s .rows .events ≡ [] → NoneExpired (s .rows .entries)
-none-expired-in s h t e = none-expired (s .rows .entries) (subst (λ es. AllReady es (s .rows .entries)) e (t .announced))
-
--- the Dones of the step
-step-ends : (s : State) (h : History) → Kept s h → s .rows .events ≡ [] → h .endings ++ ended-in (h .steps) (dones (map later (s .rows .entries))) ≡ dones-before (h .steps + 1) (issued h)
-step-ends s h t e =
-    ap (λ l. l ++ ended-in (h .steps) (dones (map later (s .rows .entries)))) (t .ends)
-    ∙ ap (λ l. dones-before (h .steps) (issued h) ++ l) (ended-step (h .steps) (s .rows .entries) (none-expired-in s h t e) ∙ ap (finishing (h .steps)) (t .counts) ∙ finishing-outstanding (h .steps) (issued h))
-    ∙ ap (λ m. dones-before m (issued h)) (sym (add-one (h .steps)))
-
-step-counts : (s : State) (h : History) → Kept s h → s .rows .events ≡ [] → countdowns (map later (s .rows .entries)) ≡ outstanding (h .steps + 1) (issued h)
-step-counts s h t e = countdowns-later (s .rows .entries) (none-expired-in s h t e) ∙ ap lowered (t .counts) ∙ lowered-outstanding (h .steps) (issued h)
 
 count-next : (s : State) (h : History) → s .step ≡ h .steps % 368 → (s .step + 1) % 368 ≡ (h .steps + 1) % 368
 count-next s h e = omega arith
@@ -185,8 +135,7 @@ kept-quiet s h t e idle f =
     let n = h .steps in
     let hs = s .rows .entries in
     let ls = map later hs in
-    let no-issue : h .issuings ++ issued-in n (passed (s .rows) .events) ≡ h .issuings =
-    ap (λ es. h .issuings ++ issued-in n es) (passed-events (s .rows) e) ∙ ap (λ l. h .issuings ++ l) (issued-dones n ls) ∙ append-nil (h .issuings) in
+    let no-issue = ap (λ l. h .issuings ++ l) (none-issued (s .rows) n e) ∙ append-nil (h .issuings) in
     subst (λ is. Kept (later-with s (passed (s .rows))) (record { steps = n + 1; takings = h .takings; issuings = is; endings = h .endings ++ ended-in n (passed (s .rows) .events) })) (sym no-issue)
     (record {
       sound = f;
@@ -196,10 +145,7 @@ kept-quiet s h t e idle f =
       requested = t .requested;
       parts = λ d. subst (Part d (n + 1) (taken-by d h) (issued-for d h)) (sym (waiting-later (of d) hs)) (part-quiet d n (taken-by d h) (issued-for d h) (map request-of (waiting (of d) hs)) (idle d) (t .parts d));
       spaced = t .spaced;
-      announced = ready-dones ls (passed (s .rows) .events) (λ m k. ap (any (ends m)) (passed-events (s .rows) e) ∙ k);
-      traced = subst (λ es. Traced key expired es ls) (sym (passed-events (s .rows) e)) (traced-dones key expired expired (λ x k. k) ls (apart-later hs (t .sound .apart)));
-      counts = step-counts s h t e;
-      ends = ap (λ es. h .endings ++ ended-in n es) (passed-events (s .rows) e) ∙ step-ends s h t e;
+      done = finishing-pass (s .rows) n (issued h) (h .endings) (t .sound .apart) e (t .done);
     })
 
 -- the history after a step with one issue
@@ -237,7 +183,7 @@ module _ (s : State) (h : History) (t : Kept s h) (m : s .step % 46 ≡ 0) (x : 
       let n = h .steps in
       let k = of whose in
       let hs = s .rows .entries in
-      let one = first-some (waiting k ls) x (sym (next-waiting k ls) ∙ next) in
+      let one = first-some (waiting k ls) x (sym next ∙ next-waiting k ls) in
       let old = subst (Part whose n (taken-by whose h) (issued-for whose h)) (sym (waiting-later k hs) ∙ ap (map request-of) one) (t .parts whose) in
       let made = part-issue whose n (taken-by whose h) (issued-for whose h) (x .request) (map request-of (rest (waiting k ls))) (in-turn (s .step) n (t .count) m)
       (before-passing n (λ i. eqb (i .request .domain) whose) (issued h) (before-issued s h t)) old in
@@ -274,12 +220,12 @@ module _ (s : State) (h : History) (t : Kept s h) (m : s .step % 46 ≡ 0) (x : 
       let hs = s .rows .entries in
       let k = of whose in
       let i : Occurrence = record { slot = x .request .slot; at = n } in
-      let one-issue : os ++ issued-in n (after .rows .events) ≡ os ++ (i ∷ []) =
-      ap (λ l. os ++ l) (issued-append n (x .request .slot) (passed (s .rows) .events) ∙ ap (λ es. issued-in n es ++ (i ∷ [])) (passed-events (s .rows) e) ∙ ap (λ l. l ++ (i ∷ [])) (issued-dones n ls)) in
-      let apart = apart-issued k ls (apart-later hs (t .sound .apart)) in
+      let one-issue = ap (λ l. os ++ l) (one-issued (s .rows) n k x e) in
       let more = one-more (after .rows .events) in
       let spaced = count-spaced (s .step) n (t .count) m in
       let none = none-outstanding n (issued h) spaced (before-issued s h t) (t .spaced) in
+      let alone = counted-later (s .rows) n (issued h) (h .endings) (t .sound .apart) e (t .done) ∙ none in
+      let last = countdowns-alone k ls x alone next ∙ ap (λ cs. cs ++ ((x .request .slot, done-delay (x .request .kind) - 1) ∷ [])) (sym alone) in
       subst (λ is. Kept after (record { steps = n + 1; takings = h .takings; issuings = is; endings = h .endings ++ ended-in n (after .rows .events) })) (sym one-issue)
       (record {
         sound = f;
@@ -289,18 +235,8 @@ module _ (s : State) (h : History) (t : Kept s h) (m : s .step % 46 ≡ 0) (x : 
         requested = ap occurrences more ∙ occurrences-append (issued h) new ∙ ap (λ l. l ++ (i ∷ [])) (t .requested);
         parts = part-issued after (after .rows .events) refl;
         spaced = subst Spaced (sym more) (spaced-append (issued h) new (t .spaced) spaced);
-        announced = ready-dones (issue-next k ls) (after .rows .events)
-            (λ j y. ap (λ es. any (ends j) (es ++ (Issue (x .request .slot) ∷ []))) (passed-events (s .rows) e) ∙ ends-before j (dones ls) (Issue (x .request .slot) ∷ []) (ap (any (ends j)) (sym (dones-issued k ls)) ∙ y));
-        traced =
-            subst (λ es. Traced key expired (es ++ (Issue (x .request .slot) ∷ [])) (issue-next k ls)) (sym (passed-events (s .rows) e))
-            (traced-end expired (dones ls) (issue-next k ls) (x .request .slot)
-            (subst (λ ds. Traced key expired ds (issue-next k ls)) (dones-issued k ls) (traced-dones key expired expired (λ y z. z) (issue-next k ls) apart)));
-        counts =
-            countdowns-alone k ls x (step-counts s h t e ∙ none) next ∙ sym (outstanding-new n (x .request))
-            ∙ ap (λ l. l ++ outstanding (n + 1) (new ∷ [])) (sym none) ∙ sym (outstanding-append (n + 1) (issued h) new) ∙ ap (outstanding (n + 1)) (sym more);
-        ends =
-            ap (λ l. h .endings ++ l) (ended-issue n (x .request .slot) (passed (s .rows) .events)) ∙ ap (λ es. h .endings ++ ended-in n es) (passed-events (s .rows) e) ∙ step-ends s h t e
-            ∙ sym (dones-before-same (n + 1) (issued h) new (let l = delay-least (x .request .kind) in omega arith)) ∙ ap (dones-before (n + 1)) (sym more);
+        done = subst (λ is. Finishing (after .rows) (n + 1) is (h .endings ++ ended-in n (after .rows .events))) (sym more)
+            (finishing-issue (s .rows) n (issued h) (h .endings) (t .sound .apart) e (t .done) k x last);
       })
 
 kept-turn : (s : State) (h : History) → Kept s h → s .rows .events ≡ [] → s .step % 46 ≡ 0 → (o : Option Entry) → next-of (of (s .step / 46)) (map later (s .rows .entries)) ≡ o
@@ -309,7 +245,7 @@ kept-turn s h t e m None next f = kept-quiet s h t e (λ d z. go d (eqb d (s .st
   where
     go : (d : ℕ) (b : Bool) → eqb d (s .step / 46) ≡ b → Turn d (h .steps) → map request-of (waiting (of d) (s .rows .entries)) ≡ []
     go d true x z =
-        sym (waiting-later (of d) (s .rows .entries)) ∙ ap (map request-of) (first-none (waiting (of d) (map later (s .rows .entries))) (sym (next-waiting (of d) (map later (s .rows .entries))) ∙ ap (λ j. next-of (of j) (map later (s .rows .entries))) (eqb-true _ _ x) ∙ next))
+        sym (waiting-later (of d) (s .rows .entries)) ∙ ap (map request-of) (first-none (waiting (of d) (map later (s .rows .entries))) (sym (ap (λ j. next-of (of j) (map later (s .rows .entries))) (eqb-true _ _ x) ∙ next) ∙ next-waiting (of d) (map later (s .rows .entries))))
     go d false x z = absurd (not-in-turn (s .step) (h .steps) d (t .count) m (eqb-false _ _ x) z)
 kept-turn s h t e m (Some x) next f = kept-issue s h t m x next e f
 
@@ -326,7 +262,7 @@ kept-step s h t e =
 kept : (b : State) (cs : List Call) → (s : State) × Kept s (history state-meaning b cs)
 kept =
     history-keeps state-meaning Kept kept-start kept-take kept-step
-    (λ s h t e. kept-collect (s .rows .entries) (s .rows .events) (s .step) h t)
+    (λ s h t e. kept-collect s h t)
 
 -- ---- the laws
 
@@ -349,4 +285,4 @@ pub isolated : Isolated turns-meaning
 isolated a b cs ds d = decided (history turns-meaning a cs) (history turns-meaning b ds) d (by-turns a cs) (by-turns b ds)
 
 pub done-in-time : Done-in-time turns-meaning
-done-in-time b cs = subst (λ h. h .endings ≡ dones-before (h .steps) (issued h)) (sym (history-coded state-codes state-of state-back state-meaning b cs)) (kept (state-of b) cs .1 .ends)
+done-in-time b cs = subst (λ h. h .endings ≡ dones-before (h .steps) (issued h)) (sym (history-coded state-codes state-of state-back state-meaning b cs)) (kept (state-of b) cs .1 .done .ended)

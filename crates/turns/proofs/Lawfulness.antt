@@ -5,12 +5,12 @@ use mathlib.Core.Bool.{Bool, true, false, cond}
 use Prim.Native.Nat.{ℕ, _+_, _-_, _*_, _/_, _%_, _≤_, _<_}
 use mathlib.Core.Logic.{_≢_, inl, inr}
 use native.Mathlib.Omega.{arith}
-use lib.Dec.{eqb, ltb, leb, lit≤}
+use lib.Dec.{eqb, ltb, lit≤}
 use lib.ListN.{length, length-map, length-append}
 use borrow.Author.Tests.{eqb-true, eqb-false, ne-eqb, ltb-true, le-leb}
 use Rattle.std.specs.declared.option.Option.{Option}
 use Rattle.std.specs.declared.option.Option.the-variants.{Some, None}
-use Rattle.interface.specs.Meaning.{Meaning, Reached, first, take-refusal}
+use Rattle.interface.specs.Meaning.{Reached, first, take-refusal}
 use Rattle.interface.specs.Lawful.{Lawful}
 use Rattle.interface.specs.Slots.{dropped, dropped-by}
 use Rattle.interface.specs.declared.Request.{Request}
@@ -24,7 +24,7 @@ use Rattle.interface.proofs.Slots.{Apart, apart-append, apart-dropped, length-d
 use Rattle.held.specs.declared.entries.Entry.{Entry}
 use Rattle.held.specs.declared.entries.Whose.the-variants.{Domain}
 use Rattle.held.specs.Entries.{later, key, has, dones, candidate, next-of, issue-next, issued-now, reading-of, new-entry, admits}
-use Rattle.held.specs.Rows.{Rows, passed, issue-of, issue-oldest}
+use Rattle.held.specs.Rows.{Rows, passed, issue-of}
 use Rattle.held.proofs.Stepping.{Stepped, Ample, apart-later, apart-issued, length-issued, length-dones, stepped-held, stepped-proper, stepped-punctual}
 use Rattle.held.proofs.Spans.{times-more, Timely, next, timely-less, timely-later, timely-append, timely-dropped, timely-none, timely-issued, timely-other, next-left, enough}
 use Rattle.turns.specs.State.{State, issue-for, turns-span, state-meaning, state-codes, state-of, state-back, turns-meaning}

@@ -5,38 +5,19 @@ use mathlib.Core.Bool.{Bool, true, false, cond, _&&_, _||_}
 use mathlib.Core.Logic.{⊎-elim}
 use Prim.Native.Nat.{ℕ, _+_, _-_, _%_, _<_, zero, suc}
 use native.Mathlib.Omega.{arith}
-use lib.Dec.{eqb}
 use borrow.Author.Tests.{lt-leb}
 use Rattle.std.specs.declared.option.Option.the-variants.{Some}
 use Rattle.interface.specs.History.{Issuance}
 use Rattle.interface.specs.declared.Request.{Request}
-use Rattle.interface.specs.declared.Event.the-variants.{Done}
 use Rattle.interface.proofs.Bools.{or-left, or-true}
 use Rattle.interface.proofs.Slots.{marked}
 use Rattle.held.specs.declared.entries.Stage.{Stage}
 use Rattle.held.specs.declared.entries.Stage.the-variants.{Waiting, Issued}
 use Rattle.held.specs.declared.entries.Entry.{Entry}
-use Rattle.held.specs.Entries.{issued-now, done-delay, expired, is-issued, key, has, dones, next-of, issue-next}
+use Rattle.held.specs.Entries.{done-delay, expired, is-issued, key, has, next-of, issue-next}
 use Rattle.held.proofs.Stepping.{at-head, no-next, delay-most}
-use Rattle.held.proofs.Delaying.{expired-issued, delay-not, counting, countdowns, counting-delay, outstanding}
+use Rattle.held.proofs.Delaying.{expired-issued, counting, countdowns, counting-delay, outstanding}
 use Rattle.turns.specs.Laws.{Before}
-
--- an issue makes no Done ready
-pub dones-issued : (k : Request → Bool) (hs : List Entry) → dones (issue-next k hs) ≡ dones hs
-dones-issued k [] = refl
-dones-issued k (h ∷ hs) = at (h .request) (h .stage) (h .left) (dones-issued k hs)
-  where
-    at : (q : Request) (s : Stage) (l : ℕ) → dones (issue-next k hs) ≡ dones hs → dones (issue-next k (record { request = q; stage = s; left = l } ∷ hs)) ≡ dones (record { request = q; stage = s; left = l } ∷ hs)
-    at q Waiting l e = go (k q)
-      where
-        go : (b : Bool) → dones (cond (b && true) (issued-now (record { request = q; stage = Waiting; left = l }) ∷ hs) (record { request = q; stage = Waiting; left = l } ∷ issue-next k hs)) ≡ dones hs
-        go true = ap (λ b. cond b (Done (q .slot) ∷ dones hs) (dones hs)) (delay-not (q .kind))
-        go false = e
-    at q (Issued n) l e = go (k q)
-      where
-        go : (b : Bool) → dones (cond (b && false) (issued-now (record { request = q; stage = Issued n; left = l }) ∷ hs) (record { request = q; stage = Issued n; left = l } ∷ issue-next k hs)) ≡ cond (eqb n 0) (Done (q .slot) ∷ dones hs) (dones hs)
-        go true = ap (λ d. cond (eqb n 0) (Done (q .slot) ∷ d) d) e
-        go false = ap (λ d. cond (eqb n 0) (Done (q .slot) ∷ d) d) e
 
 -- what has expired was issued
 pub marked-issued : (n : ℕ) (hs : List Entry) → marked key expired n hs ≡ true → marked key is-issued n hs ≡ true

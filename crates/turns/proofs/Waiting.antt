@@ -3,9 +3,7 @@ use mathlib.Core.Path.{_≡_, refl, sym, ap, _∙_}
 use mathlib.Core.List.{List, [], _∷_, _++_, map}
 use mathlib.Core.Bool.{Bool, true, false, cond, _&&_}
 use Prim.Native.Nat.{ℕ}
-use native.Mathlib.Omega.{arith}
-use Rattle.std.specs.declared.option.Option.{Option}
-use Rattle.std.specs.declared.option.Option.the-variants.{Some, None}
+use Rattle.std.specs.declared.option.Option.the-variants.{Some}
 use Rattle.interface.specs.Meaning.{first, rest}
 use Rattle.interface.specs.Slots.{dropped, failing}
 use Rattle.interface.specs.declared.Request.{Request}
@@ -29,16 +27,6 @@ passing-append p (y ∷ xs) x = go (p y) (passing-append p xs x)
 
 pub passing-more : {X : Type 0} (p : X → Bool) (xs : List X) (x : X) (b : Bool) → p x ≡ b → passing p (xs ++ (x ∷ [])) ≡ passing p xs ++ cond b (x ∷ []) []
 passing-more p xs x b e = passing-append p xs x ∙ ap (λ t. passing p xs ++ cond t (x ∷ []) []) e
-
--- ---- firsts
-
-pub first-none : {X : Type 0} (xs : List X) → first xs ≡ None → xs ≡ []
-first-none [] e = refl
-first-none (x ∷ xs) e = let z : _≡_ {A = ℕ} 0 1 = cc in absurd (omega arith)
-
-pub first-some : {X : Type 0} (xs : List X) (x : X) → first xs ≡ Some x → xs ≡ x ∷ rest xs
-first-some [] x e = let z : _≡_ {A = ℕ} 0 1 = cc in absurd (omega arith)
-first-some (y ∷ xs) x e = let z : y ≡ x = cc in ap (λ v. v ∷ xs) z
 
 -- ---- the entries of a class that wait
 

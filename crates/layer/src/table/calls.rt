@@ -67,7 +67,7 @@ impl Table {
         ensures answer { λ r. ⌜ refused r ≡ admission places (contents (now (self .entry))) request ⌝ }
         ensures after { λ _. ⌜ contents (now (self .exit)) ≡ accepted (admission places (contents (now (self .entry))) request) (admitted (contents (now (self .entry))) request) (contents (now (self .entry))) ⌝ }
     {
-        if request.slot >= 512 || request.domain >= 8 || request.bank >= 8 {
+        if !request.in_range() {
             return Err(Refusal::OutOfRange);
         }
         if self.holds(request.slot) {
@@ -119,7 +119,7 @@ impl Table {
         ensures answer { λ r. ⌜ r ≡ first (contents (now (self .entry)) .events) ⌝ }
         ensures after { λ _. ⌜ contents (now (self .exit)) ≡ collected (contents (now (self .entry))) ⌝ }
     {
-        if self.events.is_empty() {
+        if self.is_quiet() {
             return None;
         }
         let event = self.events.remove(0);

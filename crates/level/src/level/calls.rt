@@ -2,7 +2,8 @@
 ghost use mathlib.Core.Path.{_≡_};
 ghost use Rattle.std.specs.Vec.{made};
 ghost use Rattle.interface.specs.Meaning.{accepted, refused, step-refusal, left-of};
-ghost use Rattle.layer.specs.Contents.{admission};
+ghost use Rattle.layer.specs.Contents.{contents, admission};
+ghost use Rattle.level.specs.Laws.{Levels};
 ghost use Rattle.level.specs.Level.{beginning, view, meaning-over, level-meaning, level-codes};
 use crate::level::Level;
 use interface::Controller;
@@ -15,19 +16,30 @@ use layer::Table;
 use std::alloc::AllocError;
 use std::alloc::Global;
 
-impl<C: Controller + Drop> Level<C> {
-    // A level over `below`, which is reset, with the number L.
+impl<C: CountableSpan + Drop> Level<C> {
+    // A level over `below`, which is reset, with the number `delay`, unless memory is wanting. In every history of calls to
+    // it, Issues come as below, and each Done in the L-th step after its taking, or with the Done below, if that is later.
     pub fn new(heap: Global, below: C, delay: u16) -> Result<Level<C>, AllocError>
-        ensures { λ r. ⌜ made r (λ l. view state l ≡ beginning delay (meaning .start (state below))) ⌝ }
+        ensures made { λ r. ⌜ made r (λ l. view (C·Controller .state) l ≡ meaning-over (C·Controller .meaning) .start (beginning delay (C·Controller .state below))) ⌝ }
+        ensures levels { λ _. ⌜ Levels (C·Controller .meaning) delay (C·Controller .state below) ⌝ }
     {
         let table = Table::new(heap)?;
+        Ok(Level::over(below, delay, table))
+    }
+}
+
+impl<C: Controller + Drop> Level<C> {
+    // A level with this table over `below`, which is reset.
+    fn over(below: C, delay: u16, table: Table) -> Level<C>
+        ensures { λ r. ⌜ view state r ≡ record { delay = delay; table = contents table; below = meaning .start (state below) } ⌝ }
+    {
         let mut level = Level {
             below,
             delay,
             table,
         };
         level.below.reset();
-        Ok(level)
+        level
     }
 
     // Holds a request, and has it held below.
@@ -96,4 +108,4 @@ pub impl<C: CountableSpan + Drop> Controller for Level<C> as LevelController {
     }
 }
 
-pub impl<C: CountableSpan + Drop> CountableSpan for Level<C> as LevelSpan {}
+pub impl<C: CountableSpan + Drop> CountableSpan for Level<C> as LevelCountableSpan {}

@@ -2,7 +2,8 @@
 ghost use mathlib.Core.Path.{_≡_};
 ghost use Rattle.std.specs.Vec.{made};
 ghost use Rattle.interface.specs.Meaning.{accepted, refused, step-refusal, left-of};
-ghost use Rattle.layer.specs.Contents.{admission};
+ghost use Rattle.layer.specs.Contents.{contents, admission};
+ghost use Rattle.pair.specs.Laws.{Pairs};
 ghost use Rattle.pair.specs.Pair.{beginning, view, to-first, meaning-of, pair-meaning, pair-codes};
 use crate::pair::Pair;
 use interface::Controller;
@@ -22,12 +23,23 @@ fn goes_first(request: Request) -> bool
     request.bank < 4
 }
 
-impl<A: Controller + Drop, B: Controller + Drop> Pair<A, B> {
-    // A pair of two controllers, which are reset.
+impl<A: CountableSpan + Drop, B: CountableSpan + Drop> Pair<A, B> {
+    // A pair of two controllers, which are reset, unless memory is wanting. In every history of calls to it, each request is
+    // taken by the controller of its bank, and each event comes in the step in which that controller has it.
     pub fn new(heap: Global, first: A, second: B) -> Result<Pair<A, B>, AllocError>
-        ensures { λ r. ⌜ made r (λ p. view (A·Controller .state) (B·Controller .state) p ≡ beginning (A·Controller .meaning .start (A·Controller .state first)) (B·Controller .meaning .start (B·Controller .state second))) ⌝ }
+        ensures made { λ r. ⌜ made r (λ p. view (A·Controller .state) (B·Controller .state) p ≡ meaning-of (A·Controller .meaning) (B·Controller .meaning) .start (beginning (A·Controller .state first) (B·Controller .state second))) ⌝ }
+        ensures pairs { λ _. ⌜ Pairs (A·Controller .meaning) (B·Controller .meaning) (A·Controller .state first) (B·Controller .state second) ⌝ }
     {
         let table = Table::new(heap)?;
+        Ok(Pair::of(first, second, table))
+    }
+}
+
+impl<A: Controller + Drop, B: Controller + Drop> Pair<A, B> {
+    // A pair with this table, of two controllers, which are reset.
+    fn of(first: A, second: B, table: Table) -> Pair<A, B>
+        ensures { λ r. ⌜ view (A·Controller .state) (B·Controller .state) r ≡ record { table = contents table; first = A·Controller .meaning .start (A·Controller .state first); second = B·Controller .meaning .start (B·Controller .state second) } ⌝ }
+    {
         let mut pair = Pair {
             first,
             second,
@@ -35,7 +47,7 @@ impl<A: Controller + Drop, B: Controller + Drop> Pair<A, B> {
         };
         pair.first.reset();
         pair.second.reset();
-        Ok(pair)
+        pair
     }
 
     // The smaller number of places.
@@ -124,4 +136,4 @@ pub impl<A: CountableSpan + Drop, B: CountableSpan + Drop> Controller for Pair<
 pub impl<A: CountableSpan + Drop, B: CountableSpan + Drop> CountableSpan for Pair<
     A,
     B,
-> as PairSpan {}
+> as PairCountableSpan {}
