@@ -1,31 +1,29 @@
 -- First-come serves in the order of taking, each request in the first step in which it keeps its gaps.
 use mathlib.Core.Path.{_≡_, refl, sym, ap, _∙_, subst}
 use mathlib.Core.List.{List, [], _∷_, _++_, map, append-nil}
-use mathlib.Core.Bool.{Bool, true, false, cond, _&&_}
+use mathlib.Core.Bool.{true}
 use Prim.Native.Nat.{ℕ, _+_, _≤_, _<_}
 use native.Mathlib.Omega.{arith}
 use lib.Dec.{ltb}
 use borrow.Author.Tests.{both-ways, ltb-true}
-use Rattle.std.specs.declared.option.Option.{Option}
 use Rattle.std.specs.declared.option.Option.the-variants.{Some, None}
-use Rattle.interface.specs.Meaning.{first, rest, take-refusal}
+use Rattle.interface.specs.Meaning.{rest, take-refusal}
 use Rattle.interface.specs.History.{Taking, Occurrence, Issuance, History, blank, issued-in, ended-in, with-taking, with-step, Served, issuances}
-use Rattle.interface.specs.Slots.{failing}
 use Rattle.interface.specs.declared.Request.{Request}
 use Rattle.interface.specs.declared.Event.{Event}
 use Rattle.interface.specs.declared.Event.the-variants.{Issue, Done}
 use Rattle.interface.proofs.Bools.{and-parts}
 use Rattle.interface.proofs.Emptying.{first-some, first-none}
 use Rattle.interface.proofs.Takes.{take-ok}
-use Rattle.interface.proofs.Slots.{Traced, traced-dones, traced-append, failing-append, failing-dropped, map-append}
+use Rattle.interface.proofs.Slots.{Traced, traced-dones, traced-append, map-append}
 use Rattle.interface.proofs.Traces.{history-keeps, history-coded}
 use Rattle.interface.proofs.Served.{pending, served-take, pending-take, issuances-take, Shut, served-wait, served-issue, pending-issue, issuances-issue}
-use Rattle.held.specs.declared.entries.Stage.{Stage}
-use Rattle.held.specs.declared.entries.Stage.the-variants.{Waiting, Issued}
 use Rattle.held.specs.declared.entries.Entry.{Entry}
 use Rattle.held.specs.Entries.{request-of, later, expired, key, dones, anyone, next-of, issue-next, is-issued, new-entry}
 use Rattle.held.proofs.Stepping.{apart-later, apart-issued}
-use Rattle.held.proofs.Delaying.{expired-issued, dones-issued, traced-end, issued-dones, issued-append}
+use Rattle.held.proofs.Delaying.{expired-issued, traced-end}
+use Rattle.held.proofs.Waiting.{waiting, waiting-later, next-waiting, waiting-issued, waiting-taken, waiting-dropped}
+use Rattle.held.proofs.Finishing.{dones-issued, none-issued, one-issued}
 use Rattle.first_come.specs.declared.gaps.Gaps.{Gaps}
 use Rattle.first_come.specs.Gaps.{gaps-passed, allows}
 use Rattle.first_come.specs.State.{State, first-come-span, elapsed, issue, state-meaning, state-codes, state-of, state-back, first-come-meaning}
@@ -40,35 +38,7 @@ taken-request k = k .request
 
 -- those that wait among the entries
 abbrev waits-in : List Entry → List Request
-waits-in es = map request-of (failing is-issued es)
-
-later-at : (q : Request) (t : Stage) (l : ℕ) (es fs : List Entry) → waits-in es ≡ waits-in fs
-    → waits-in (later (record { request = q; stage = t; left = l }) ∷ es) ≡ waits-in (record { request = q; stage = t; left = l } ∷ fs)
-later-at q Waiting l es fs e = ap (λ r. q ∷ r) e
-later-at q (Issued n) l es fs e = e
-
-later-waits : (es : List Entry) → waits-in (map later es) ≡ waits-in es
-later-waits [] = refl
-later-waits (e ∷ es) = later-at (e .request) (e .stage) (e .left) (map later es) es (later-waits es)
-
-next-at : (q : Request) (t : Stage) (l : ℕ) (es : List Entry) → next-of anyone es ≡ first (failing is-issued es)
-    → next-of anyone (record { request = q; stage = t; left = l } ∷ es) ≡ first (failing is-issued (record { request = q; stage = t; left = l } ∷ es))
-next-at q Waiting l es e = refl
-next-at q (Issued n) l es e = e
-
--- the next is the first that waits
-next-waits : (es : List Entry) → next-of anyone es ≡ first (failing is-issued es)
-next-waits [] = refl
-next-waits (e ∷ es) = next-at (e .request) (e .stage) (e .left) es (next-waits es)
-
-issue-at : (q : Request) (t : Stage) (l : ℕ) (es : List Entry) → failing is-issued (issue-next anyone es) ≡ rest (failing is-issued es)
-    → failing is-issued (issue-next anyone (record { request = q; stage = t; left = l } ∷ es)) ≡ rest (failing is-issued (record { request = q; stage = t; left = l } ∷ es))
-issue-at q Waiting l es e = refl
-issue-at q (Issued n) l es e = e
-
-issue-waits : (es : List Entry) → failing is-issued (issue-next anyone es) ≡ rest (failing is-issued es)
-issue-waits [] = refl
-issue-waits (e ∷ es) = issue-at (e .request) (e .stage) (e .left) es (issue-waits es)
+waits-in es = map request-of (waiting anyone es)
 
 abbrev Split : List Taking → Request → List Request → Type 0
 Split ps q qs = (k : Taking) × (ks : List Taking) × (ps ≡ k ∷ ks) × (k .request ≡ q) × (map taken-request ks ≡ qs)
@@ -82,8 +52,8 @@ split (k ∷ ks) q qs e = (k, ks, refl, cc, cc)
 abbrev pub sent : History → List Issuance
 sent h = issuances [] (h .takings) (h .issuings)
 
-abbrev pub waiting : History → List Taking
-waiting h = pending (h .takings) (h .issuings)
+abbrev pub unissued : History → List Taking
+unissued h = pending (h .takings) (h .issuings)
 
 -- takings that came before step n, of banks that there are
 abbrev Since : ℕ → List Taking → Type 0
@@ -101,8 +71,8 @@ since-append n (x ∷ ks) k s a b = (s .0, s .1, since-append n ks k (s .2) a b)
 pub record Follows (s : State) (h : History) : Type 0 where
   pub sound : Sound s
   pub served : Served Kept [] (h .takings) (h .issuings) (h .steps)
-  pub waits : waits-in (s .rows .entries) ≡ map taken-request (waiting h)
-  pub since : Since (h .steps) (waiting h)
+  pub waits : waits-in (s .rows .entries) ≡ map taken-request (unissued h)
+  pub since : Since (h .steps) (unissued h)
   pub agrees : Agrees (s .gaps) (h .steps) (sent h)
   pub traced : Traced key is-issued (s .rows .events) (s .rows .entries)
 
@@ -123,9 +93,9 @@ follows-take s h q t ok =
     record {
       sound = sound-take s q (t .sound) ok;
       served = served-take Kept ks os [] n k (omega arith) (t .served);
-      waits = ap (map request-of) (failing-append is-issued es (new-entry first-come-span q) refl) ∙ map-append request-of (failing is-issued es) (new-entry first-come-span q)
-          ∙ ap (λ l. l ++ (q ∷ [])) (t .waits) ∙ sym (map-append taken-request (waiting h) k) ∙ ap (map taken-request) (sym p);
-      since = subst (Since n) (sym p) (since-append n (waiting h) k (t .since) (omega arith) low);
+      waits = waiting-taken anyone es first-come-span q true refl
+          ∙ ap (λ l. l ++ (q ∷ [])) (t .waits) ∙ sym (map-append taken-request (unissued h) k) ∙ ap (map taken-request) (sym p);
+      since = subst (Since n) (sym p) (since-append n (unissued h) k (t .since) (omega arith) low);
       agrees = subst (Agrees (s .gaps) n) (sym i) (t .agrees);
       traced = traced-append key is-issued (s .rows .events) es (new-entry first-come-span q) (t .traced);
     }
@@ -139,7 +109,7 @@ follows-collect es (Issue n ∷ evs) g h t = record { sound = sound-collect es (
 follows-collect es (Done n ∷ evs) g h t = record {
   sound = sound-collect es (Done n ∷ evs) g (t .sound);
   served = t .served;
-  waits = ap (map request-of) (failing-dropped key is-issued n es (t .sound .apart) (t .traced .0)) ∙ t .waits;
+  waits = ap (map request-of) (waiting-dropped anyone n es (t .sound .apart) (t .traced .0)) ∙ t .waits;
   since = t .since;
   agrees = t .agrees;
   traced = t .traced .1;
@@ -152,20 +122,14 @@ events-passed s none = ap (λ evs. evs ++ dones (map later (s .rows .entries))) 
 
 -- no Issue comes
 pub no-issue : (s : State) (h : History) → s .rows .events ≡ [] → h .issuings ++ issued-in (h .steps) (elapsed s .rows .events) ≡ h .issuings
-no-issue s h none =
-    ap (λ evs. h .issuings ++ issued-in (h .steps) evs) (events-passed s none) ∙ ap (λ l. h .issuings ++ l) (issued-dones (h .steps) (map later (s .rows .entries))) ∙ append-nil (h .issuings)
+no-issue s h none = ap (λ l. h .issuings ++ l) (none-issued (s .rows) (h .steps) none) ∙ append-nil (h .issuings)
 
 -- one Issue comes
 pub one-issue : (s : State) (h : History) (e : Entry) → s .rows .events ≡ []
     → h .issuings ++ issued-in (h .steps) (issued-state s e .rows .events) ≡ h .issuings ++ (record { slot = e .request .slot; at = h .steps } ∷ [])
-one-issue s h e none =
-    let n = h .steps in
-    let o : Occurrence = record { slot = e .request .slot; at = n } in
-    ap (λ l. h .issuings ++ l)
-    (issued-append n (e .request .slot) (elapsed s .rows .events) ∙ ap (λ evs. issued-in n evs ++ (o ∷ [])) (events-passed s none)
-    ∙ ap (λ l. l ++ (o ∷ [])) (issued-dones n (map later (s .rows .entries))))
+one-issue s h e none = ap (λ l. h .issuings ++ l) (one-issued (s .rows) (h .steps) anyone e none)
 
-follows-quiet : (s : State) (h : History) → Follows s h → s .rows .events ≡ [] → Shut Kept (h .steps) (sent h) (waiting h) → Sound (elapsed s) → Follows (elapsed s) (with-step h (elapsed s .rows .events))
+follows-quiet : (s : State) (h : History) → Follows s h → s .rows .events ≡ [] → Shut Kept (h .steps) (sent h) (unissued h) → Sound (elapsed s) → Follows (elapsed s) (with-step h (elapsed s .rows .events))
 follows-quiet s h t none z f =
     let n = h .steps in
     let es = s .rows .entries in
@@ -173,14 +137,14 @@ follows-quiet s h t none z f =
     (record {
       sound = f;
       served = served-wait Kept (h .takings) (h .issuings) [] n z (t .served);
-      waits = later-waits es ∙ t .waits;
-      since = since-more n (waiting h) (t .since);
+      waits = waiting-later anyone es ∙ t .waits;
+      since = since-more n (unissued h) (t .since);
       agrees = agrees-pass (s .gaps) n (sent h) (t .agrees);
       traced = subst (λ evs. Traced key is-issued evs (map later es)) (sym (events-passed s none)) (traced-dones key is-issued expired expired-issued (map later es) (apart-later es (t .sound .apart)));
     })
 
-follows-issue : (s : State) (h : History) (e : Entry) → Follows s h → s .rows .events ≡ [] → (k : Taking) (ks : List Taking) → waiting h ≡ k ∷ ks → k .request ≡ e .request
-    → map taken-request ks ≡ map request-of (rest (failing is-issued (map later (s .rows .entries))))
+follows-issue : (s : State) (h : History) (e : Entry) → Follows s h → s .rows .events ≡ [] → (k : Taking) (ks : List Taking) → unissued h ≡ k ∷ ks → k .request ≡ e .request
+    → map taken-request ks ≡ map request-of (rest (waiting anyone (map later (s .rows .entries))))
     → allows (gaps-passed (s .gaps)) (e .request) ≡ true → Sound (issued-state s e) → Follows (issued-state s e) (with-step h (issued-state s e .rows .events))
 follows-issue s h e t none k ks ps kq rests o f =
     let n = h .steps in
@@ -195,13 +159,13 @@ follows-issue s h e t none k ks ps kq rests o f =
     (record {
       sound = f;
       served = served-issue Kept kept-apart (h .takings) (h .issuings) [] n k ks i ps (ap (λ (q : Request). q .slot) (sym kq)) refl (since .0) (subst (λ q. Kept (sent h) q n) (sym kq) kept) (t .served);
-      waits = ap (map request-of) (issue-waits es) ∙ sym rests ∙ ap (map taken-request) (sym pends);
+      waits = ap (map request-of) (waiting-issued anyone es) ∙ sym rests ∙ ap (map taken-request) (sym pends);
       since = subst (Since (n + 1)) (sym pends) (since-more n ks (since .2));
       agrees = subst (Agrees _ (n + 1)) (sym grown) (agrees-issue (s .gaps) n (sent h) (t .agrees) (e .request) low kept);
       traced =
           subst (λ evs. Traced key is-issued (evs ++ (Issue (e .request .slot) ∷ [])) (issue-next anyone es)) (sym (events-passed s none))
           (traced-end is-issued (dones es) (issue-next anyone es) (e .request .slot)
-          (subst (λ ds. Traced key is-issued ds (issue-next anyone es)) (dones-issued es)
+          (subst (λ ds. Traced key is-issued ds (issue-next anyone es)) (dones-issued anyone es)
           (traced-dones key is-issued expired expired-issued (issue-next anyone es) (apart-issued anyone es (apart-later (s .rows .entries) (t .sound .apart))))));
     })
 
@@ -211,17 +175,17 @@ shut-none n is (k ∷ ps) e = let z : _≡_ {A = ℕ} 0 1 = cc in absurd (omega 
 
 -- the request that is next is the oldest that waits in the history
 pub oldest-taking : (s : State) (h : History) → Follows s h → (e : Entry) → next-of anyone (map later (s .rows .entries)) ≡ Some e
-    → Split (waiting h) (e .request) (map request-of (rest (failing is-issued (map later (s .rows .entries)))))
+    → Split (unissued h) (e .request) (map request-of (rest (waiting anyone (map later (s .rows .entries)))))
 oldest-taking s h t e next =
     let es = map later (s .rows .entries) in
-    let one = first-some (failing is-issued es) e (sym (sym (next-waits es) ∙ next)) in
-    split (waiting h) (e .request) (map request-of (rest (failing is-issued es))) (sym (t .waits) ∙ sym (later-waits (s .rows .entries)) ∙ ap (map request-of) one)
+    let one = first-some (waiting anyone es) e (sym (sym (next-waiting anyone es) ∙ next)) in
+    split (unissued h) (e .request) (map request-of (rest (waiting anyone es))) (sym (t .waits) ∙ sym (waiting-later anyone (s .rows .entries)) ∙ ap (map request-of) one)
 
 follows-outcome : (s r : State) (h : History) → Follows s h → s .rows .events ≡ [] → Outcome s r → Sound r → Follows r (with-step h (r .rows .events))
 follows-outcome s r h t none (quiet next) f =
     let es = map later (s .rows .entries) in
-    let nothing = first-none (failing is-issued es) (sym (sym (next-waits es) ∙ next)) in
-    follows-quiet s h t none (shut-none (h .steps) (sent h) (waiting h) (sym (t .waits) ∙ sym (later-waits (s .rows .entries)) ∙ ap (map request-of) nothing)) f
+    let nothing = first-none (waiting anyone es) (sym (sym (next-waiting anyone es) ∙ next)) in
+    follows-quiet s h t none (shut-none (h .steps) (sent h) (unissued h) (sym (t .waits) ∙ sym (waiting-later anyone (s .rows .entries)) ∙ ap (map request-of) nothing)) f
 follows-outcome s r h t none (shut e next a) f =
     let p = oldest-taking s h t e next in
     let since = subst (Since (h .steps)) (p .2) (t .since) in

@@ -1,13 +1,12 @@
 -- Issued entries beside a history of issues: when their Dones come.
-use mathlib.Core.Path.{_≡_, refl, sym, ap, _∙_, subst}
+use mathlib.Core.Path.{_≡_, refl, sym, ap, _∙_}
 use mathlib.Core.List.{List, [], _∷_, _++_, map}
 use mathlib.Core.Bool.{Bool, true, false, cond, _&&_, _||_}
 use Prim.Native.Nat.{ℕ, _+_, _-_, _≤_, _<_, zero, suc}
 use native.Mathlib.Omega.{arith}
 use lib.Dec.{eqb, leb, lit≤}
 use borrow.Author.Tests.{both-ways, eqb-true, eqb-false, eq-eqb, ne-eqb, leb-true, leb-false, le-leb}
-use Rattle.std.specs.declared.option.Option.{Option}
-use Rattle.std.specs.declared.option.Option.the-variants.{Some, None}
+use Rattle.std.specs.declared.option.Option.the-variants.{Some}
 use Rattle.interface.specs.Meaning.{any}
 use Rattle.interface.specs.Lawful.{ends}
 use Rattle.interface.specs.History.{Occurrence, Issuance, issued-in, ended-in}
@@ -37,15 +36,6 @@ expired-issued h e = expired-issued-at (h .stage) e
 pub delay-not : (k : Kind) → eqb (done-delay k) 0 ≡ false
 delay-not Read = refl
 delay-not Write = refl
-
-pub dones-issued-at : (q : Request) (s : Stage) (l : ℕ) (hs : List Entry) → dones (issue-next anyone hs) ≡ dones hs
-    → dones (issue-next anyone (record { request = q; stage = s; left = l } ∷ hs)) ≡ dones (record { request = q; stage = s; left = l } ∷ hs)
-dones-issued-at q Waiting l hs e = ap (λ b. cond b (Done (q .slot) ∷ dones hs) (dones hs)) (delay-not (q .kind))
-dones-issued-at q (Issued n) l hs e = ap (λ d. cond (eqb n 0) (Done (q .slot) ∷ d) d) e
-
-pub dones-issued : (hs : List Entry) → dones (issue-next anyone hs) ≡ dones hs
-dones-issued [] = refl
-dones-issued (h ∷ hs) = dones-issued-at (h .request) (h .stage) (h .left) hs (dones-issued hs)
 
 pub traced-end : (p : Entry → Bool) (es : List Event) (hs : List Entry) (n : ℕ) → Traced key p es hs → Traced key p (es ++ (Issue n ∷ [])) hs
 traced-end p [] hs n t = tt

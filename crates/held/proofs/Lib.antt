@@ -1,3 +1,5 @@
 pub mod Stepping
 pub mod Spans
 pub mod Delaying
+pub mod Waiting
+pub mod Finishing

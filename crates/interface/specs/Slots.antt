@@ -36,3 +36,8 @@ dones-of key p (x ∷ xs) = cond (p x) (Done (key x) ∷ dones-of key p xs) (don
 abbrev pub failing : {X : Type 0} → (X → Bool) → List X → List X
 failing p [] = []
 failing p (x ∷ xs) = cond (p x) (failing p xs) (x ∷ failing p xs)
+
+-- those that pass a test
+abbrev pub passing : {X : Type 0} → (X → Bool) → List X → List X
+passing p [] = []
+passing p (x ∷ xs) = cond (p x) (x ∷ passing p xs) (passing p xs)

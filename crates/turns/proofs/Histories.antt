@@ -10,7 +10,7 @@ use Rattle.std.specs.declared.option.Option.{Option}
 use Rattle.std.specs.declared.option.Option.the-variants.{Some, None}
 use Rattle.interface.specs.Meaning.{Call, first, rest, take-refusal}
 use Rattle.interface.specs.History.{History, Taking, Occurrence, Issuance, blank, with-taking, with-step, history, ended-in, Served, issuances}
-use Rattle.interface.specs.Slots.{dropped-by}
+use Rattle.interface.specs.Slots.{dropped-by, passing}
 use Rattle.interface.specs.declared.Request.{Request}
 use Rattle.interface.specs.declared.Event.{Event}
 use Rattle.interface.specs.declared.Event.the-variants.{Issue, Done}
@@ -23,12 +23,12 @@ use Rattle.held.specs.Entries.{request-of, later, key, expired, done-delay, nex
 use Rattle.held.specs.Rows.{passed, issue-of}
 use Rattle.held.specs.Delays.{dones-before}
 use Rattle.turns.specs.State.{State, turns-span, state-meaning, state-codes, state-of, state-back, turns-meaning}
-use Rattle.turns.specs.Laws.{issued, occurrences, passing, taken-by, issued-for, Turn, Before, ByTurns, Issues-by-turns, Isolated, InTurn, Done-in-time}
+use Rattle.turns.specs.Laws.{issued, occurrences, taken-by, issued-for, Turn, Before, ByTurns, Issues-by-turns, Isolated, InTurn, Done-in-time}
 use Rattle.turns.proofs.Lawfulness.{of, Sound, sound-start, sound-take, sound-collect, sound-step, after-turn, later-with, stepped-is, others}
-use Rattle.turns.proofs.Waiting.{passing-more, waiting, waiting-later, next-waiting, waiting-issued, waiting-others, waiting-taken, waiting-dropped}
+use Rattle.held.proofs.Waiting.{passing-more, waiting, waiting-later, next-waiting, waiting-issued, waiting-others, waiting-taken, waiting-dropped}
 use Rattle.turns.proofs.Requests.{Past, past-more, past-append, among-take, among-issue, before-among, before-passing, occurrences-append, Owned, owned-more, owned-later, owned-issued, owned-dropped, owned-take, owned-next, next-class}
 use Rattle.turns.proofs.Parts.{Part, part-none, part-take, part-quiet, part-issue, served-once}
-use Rattle.turns.proofs.Finishing.{Finishing, finishing-none, finishing-take, finishing-collect, finishing-pass, finishing-issue, counted-later, none-issued, one-issued}
+use Rattle.held.proofs.Finishing.{Finishing, finishing-none, finishing-take, finishing-collect, finishing-pass, finishing-issue, counted-later, none-issued, one-issued}
 use Rattle.turns.proofs.Spacing.{marked-issued, countdowns-alone, Spaced, spaced-append, none-outstanding}
 
 -- a domain's part of a history, with the requests of it that wait

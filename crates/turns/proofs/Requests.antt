@@ -11,13 +11,13 @@ use Rattle.std.specs.declared.option.Option.{Option}
 use Rattle.std.specs.declared.option.Option.the-variants.{Some, None}
 use Rattle.interface.specs.Meaning.{any}
 use Rattle.interface.specs.History.{Taking, Occurrence, Issuance}
-use Rattle.interface.specs.Slots.{dropped}
+use Rattle.interface.specs.Slots.{dropped, passing}
 use Rattle.interface.specs.declared.Request.{Request}
 use Rattle.interface.proofs.Bools.{or-false, eqb-comm, same}
 use Rattle.held.specs.declared.entries.Entry.{Entry}
 use Rattle.held.specs.Entries.{later, key, has, candidate, next-of, issue-next, issued-now, new-entry}
 use Rattle.held.proofs.Stepping.{at-head, no-next}
-use Rattle.turns.specs.Laws.{or-else, last-taken, issuance-of, issued-among, occurrences, passing, Before}
+use Rattle.turns.specs.Laws.{or-else, last-taken, issuance-of, issued-among, occurrences, Before}
 
 -- ---- the last taking of a slot
 

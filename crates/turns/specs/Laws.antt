@@ -1,13 +1,14 @@
 -- The laws of turns over whole histories. Steps are counted from 0 at the last reset.
 use mathlib.Core.Path.{_≡_}
 use mathlib.Core.List.{List, [], _∷_, _++_}
-use mathlib.Core.Bool.{Bool, cond, _&&_}
+use mathlib.Core.Bool.{cond, _&&_}
 use Prim.Native.Nat.{ℕ, _*_, _%_, _<_}
 use lib.Dec.{eqb, leb}
 use Rattle.std.specs.declared.option.Option.{Option}
 use Rattle.std.specs.declared.option.Option.the-variants.{Some, None}
 use Rattle.interface.specs.Meaning.{Meaning, Call}
 use Rattle.interface.specs.History.{History, Taking, Occurrence, Issuance, Served, issuances, history}
+use Rattle.interface.specs.Slots.{passing}
 use Rattle.interface.specs.declared.Request.{Request}
 use Rattle.held.specs.Delays.{dones-before}
 
@@ -41,11 +42,6 @@ occurrences [] = []
 occurrences (i ∷ is) = record { slot = i .request .slot; at = i .at } ∷ occurrences is
 
 -- ---- the part of a domain
-
--- those that pass a test
-abbrev pub passing : {X : Type 0} → (X → Bool) → List X → List X
-passing p [] = []
-passing p (x ∷ xs) = cond (p x) (x ∷ passing p xs) (passing p xs)
 
 -- the takings, and the issues, of domain d
 abbrev pub taken-by : ℕ → History → List Taking

@@ -5,14 +5,13 @@ use mathlib.Core.Bool.{Bool, true, false, cond, _&&_}
 use Prim.Native.Nat.{ℕ}
 use Rattle.std.specs.declared.option.Option.the-variants.{Some}
 use Rattle.interface.specs.Meaning.{first, rest}
-use Rattle.interface.specs.Slots.{dropped, failing}
+use Rattle.interface.specs.Slots.{dropped, failing, passing}
 use Rattle.interface.specs.declared.Request.{Request}
 use Rattle.interface.proofs.Slots.{Apart, marked, failing-append, failing-dropped, map-append}
 use Rattle.held.specs.declared.entries.Stage.{Stage}
 use Rattle.held.specs.declared.entries.Stage.the-variants.{Waiting, Issued}
 use Rattle.held.specs.declared.entries.Entry.{Entry}
 use Rattle.held.specs.Entries.{request-of, later, key, next-of, issue-next, issued-now, is-issued, new-entry}
-use Rattle.turns.specs.Laws.{passing}
 
 -- ---- those that pass a test
 

@@ -14,17 +14,17 @@ use Rattle.interface.specs.declared.Request.{Request}
 use Rattle.interface.specs.declared.Event.{Event}
 use Rattle.interface.specs.declared.Event.the-variants.{Issue, Done}
 use Rattle.interface.proofs.Slots.{Apart, Traced, traced-dones, traced-append, ends-before}
 use Rattle.held.specs.declared.entries.Stage.{Stage}
 use Rattle.held.specs.declared.entries.Stage.the-variants.{Waiting, Issued}
 use Rattle.held.specs.declared.entries.Entry.{Entry}
 use Rattle.held.specs.Entries.{later, key, expired, dones, done-delay, issue-next, issued-now, new-entry}
 use Rattle.held.specs.Rows.{Rows, no-rows, with-request, passed, first-out, issue-of}
 use Rattle.held.specs.Delays.{dones-before}
 use Rattle.held.proofs.Stepping.{apart-later, apart-issued}
 use Rattle.held.proofs.Delaying.{delay-not, traced-end, issued-dones, issued-append, countdowns, outstanding, finishing, lowered, NoneExpired, none-expired, ended-step, countdowns-later, countdowns-append, countdowns-dropped, finishing-outstanding, lowered-outstanding, AllReady, ready-append, ready-dropped, ready-dones, outstanding-append, outstanding-new, delay-least, dones-before-same, ended-issue}
 
 -- an issue makes no Done ready
-dones-issued : (k : Request → Bool) (es : List Entry) → dones (issue-next k es) ≡ dones es
+pub dones-issued : (k : Request → Bool) (es : List Entry) → dones (issue-next k es) ≡ dones es
 dones-issued k [] = refl
 dones-issued k (e ∷ es) = at (e .request) (e .stage) (e .left) (dones-issued k es)
   where
