@@ -1,25 +1,24 @@
 -- The calls: what each is refused for, what it answers and writes, and the state after it.
+use mathlib.Core.Bool.{Bool, false, _&&_, _||_, not}
 use mathlib.Core.List.{List, [], _∷_, _++_, map}
-use mathlib.Core.Bool.{Bool, true, false, cond, _&&_, _||_, not}
 use Prim.Native.Nat.{ℕ, suc, _+_, _*_, _%_, _^_}
-use lib.ListN.{length, set}
 use lib.Dec.{eqb, leb, ltb}
-use Rattle.std.specs.declared.option.Option.{Option}
+use lib.ListN.{length, set}
 use Rattle.std.specs.declared.option.Option.the-variants.{Some, None}
-use Rattle.interface.specs.Meaning.{Meaning, after, check}
+use Rattle.std.specs.declared.option.Option.{Option}
 use Rattle.interface.specs.Meaning as controller
+use Rattle.interface.specs.Meaning.{Meaning, after, check}
 use Rattle.interface.specs.declared.Kind.{Kind}
 use Rattle.patterns.specs.Shape.{shape-checks, edge-of}
 use Rattle.patterns.specs.declared.setting.EdgeSetting.{EdgeSetting}
 use Rattle.patterns.specs.declared.setting.VertexSetting.{VertexSetting}
+use Rattle.model.specs.Settings.{Role, unset, opened, protected, Settings, blank, Vertex, role-of, patterns-of, is-opened, is-unset, domain-of, vertices, all-slots}
+use Rattle.model.specs.Ticks.{still, flying, Tables, put, is-still, alike, after-tick, controller-after, lines, notices}
 use Rattle.model.specs.declared.Letter.the-variants as letter
 use Rattle.model.specs.declared.Line.{Line}
 use Rattle.model.specs.declared.Notice.{Notice}
-use Rattle.model.specs.declared.Waiting.{Waiting}
+use Rattle.model.specs.declared.Payload.the-variants.{Real}
 use Rattle.model.specs.declared.Payload.{Payload}
-use Rattle.model.specs.declared.Payload.the-variants.{Fake, Real}
-use Rattle.model.specs.Settings.{Pattern, Role, unset, opened, protected, Settings, blank, Vertex, role-of, patterns-of, is-opened, is-unset, domain-of, vertices, all-slots}
-use Rattle.model.specs.Ticks.{Stage, still, flying, Tables, put, is-still, alike, after-tick, controller-after, lines, notices}
 
 -- a setting: open with domain and share, lane with domain, vertices, edges and rest, first with a number
 pub data Setting : Type 0 where

@@ -1,8 +1,8 @@
 -- What is set before a run: the domains, their shares and lanes, and the slots that these have.
-use mathlib.Core.List.{List, [], _∷_, _++_}
 use mathlib.Core.Bool.{Bool, true, false}
+use mathlib.Core.List.{List, [], _∷_, _++_}
 use Prim.Native.Nat.{ℕ, zero, suc, _+_, _*_, _/_, _%_}
-use lib.ListN.{length, getD, replicate}
+use lib.ListN.{getD, replicate}
 use Rattle.interface.specs.declared.Kind.{Kind}
 use Rattle.patterns.specs.declared.edge.Edge.{Edge}
 use Rattle.patterns.specs.declared.setting.VertexSetting.{VertexSetting}

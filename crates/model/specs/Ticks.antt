@@ -1,28 +1,27 @@
 -- A tick: the controller's events, the next rounds and the departures, with the lines and notices that they write.
-use mathlib.Core.List.{List, [], _∷_, _++_}
 use mathlib.Core.Bool.{Bool, true, false, cond, _&&_}
-use Prim.Native.Nat.{ℕ, suc, _+_, _*_, _/_, _%_}
-use lib.ListN.{length}
+use mathlib.Core.List.{List, [], _∷_, _++_}
+use Prim.Native.Nat.{ℕ, _+_, _*_, _%_}
 use lib.Dec.{eqb, leb}
-use Rattle.std.specs.declared.option.Option.{Option}
+use lib.ListN.{length}
 use Rattle.std.specs.declared.option.Option.the-variants.{Some, None}
-use Rattle.interface.specs.Meaning.{Meaning, Call, after}
+use Rattle.std.specs.declared.option.Option.{Option}
 use Rattle.interface.specs.Emptied.{emptied}
-use Rattle.interface.specs.declared.Kind.{Kind}
-use Rattle.interface.specs.declared.Kind.the-variants.{Read, Write}
-use Rattle.interface.specs.declared.Event.{Event}
+use Rattle.interface.specs.Meaning.{Meaning, Call, after}
 use Rattle.interface.specs.declared.Event.the-variants.{Issue, Done}
+use Rattle.interface.specs.declared.Event.{Event}
+use Rattle.interface.specs.declared.Kind.the-variants.{Read, Write}
+use Rattle.interface.specs.declared.Kind.{Kind}
 use Rattle.interface.specs.declared.Request.{Request}
 use Rattle.patterns.specs.Due.{due, round-end, next-start}
-use Rattle.patterns.specs.declared.edge.Edge.{Edge}
-use Rattle.model.specs.declared.Letter.{Letter}
+use Rattle.model.specs.Settings.{Settings, Vertex, is-open, domain-of, lane-of, pattern-at, vertices}
 use Rattle.model.specs.declared.Letter.the-variants as letter
+use Rattle.model.specs.declared.Letter.{Letter}
 use Rattle.model.specs.declared.Line.{Line}
 use Rattle.model.specs.declared.Notice.{Notice}
-use Rattle.model.specs.declared.Waiting.{Waiting}
-use Rattle.model.specs.declared.Payload.{Payload}
 use Rattle.model.specs.declared.Payload.the-variants.{Fake, Real}
-use Rattle.model.specs.Settings.{Settings, Pattern, Vertex, is-open, domain-of, lane-of, pattern-at, vertices}
+use Rattle.model.specs.declared.Payload.{Payload}
+use Rattle.model.specs.declared.Waiting.{Waiting}
 
 -- how a slot stands: a vertex is still, flying, or done at a tick; a slot of an open domain is free (still) or flying
 pub data Stage : Type 0 where

@@ -1,12 +1,10 @@
-// What the scheduler writes and answers, and the laws of all its runs.
+// What the scheduler writes and answers, and its refusals.
 ghost use mathlib.Core.Path.{_≡_};
 ghost use Rattle.model.specs.Refusals.{number};
 use interface::Kind;
 use interface::KindDebug;
 use interface::KindEq;
 use interface::KindPartialEq;
-
-pub mod laws;
 
 // What a line says of a request: the controller took it, it went to the card, the card has finished it.
 #[derive(Clone, Copy, PartialEq, Eq, Debug)]
