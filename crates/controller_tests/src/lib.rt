@@ -1,44 +1,15 @@
 // The worked cases of the controllers, step by step.
-use arrivals::drain;
-use interface::Controller;
-use interface::Event;
-use interface::EventPartialEq;
-use interface::Kind;
-use interface::Request;
-
-// The steps that are looked at.
-const STEPS: u32 = 500;
-
-pub fn request(slot: u16, domain: u8, bank: u8, kind: Kind) -> Request {
-    Request {
-        slot,
-        domain,
-        bank,
-        kind,
-    }
-}
-
-// The first step, from 0, in which the event comes, or 500.
-pub fn step_of<C: Controller>(controller: &mut C, wanted: Event) -> u32 {
-    for step in 0..STEPS {
-        let mut events = [Event::Issue(0); 64];
-        let _ = controller.step();
-        let count = drain(controller, &mut events);
-        for (i, event) in events.iter().enumerate() {
-            if i < count && *event == wanted {
-                return step;
-            }
-        }
-    }
-    STEPS
-}
-
 #[cfg(test)]
 mod tests {
-    use super::*;
+    use arrivals::drain;
     use first_come::FirstCome;
     use first_come::FirstComeController;
     use first_come::FirstComeCountableSpan;
+    use interface::Controller;
+    use interface::Event;
+    use interface::EventPartialEq;
+    use interface::Kind;
+    use interface::Request;
     use level::Level;
     use level::LevelController;
     use pair::Pair;
@@ -47,6 +18,33 @@ mod tests {
     use turns::Turns;
     use turns::TurnsController;
     use turns::TurnsCountableSpan;
+
+    // The steps that are looked at.
+    const STEPS: u32 = 500;
+
+    fn request(slot: u16, domain: u8, bank: u8, kind: Kind) -> Request {
+        Request {
+            slot,
+            domain,
+            bank,
+            kind,
+        }
+    }
+
+    // The first step, from 0, in which the event comes, or 500.
+    fn step_of<C: Controller>(controller: &mut C, wanted: Event) -> u32 {
+        for step in 0..STEPS {
+            let mut events = [Event::Issue(0); 64];
+            let _ = controller.step();
+            let count = drain(controller, &mut events);
+            for (i, event) in events.iter().enumerate() {
+                if i < count && *event == wanted {
+                    return step;
+                }
+            }
+        }
+        STEPS
+    }
 
     // Two requests of domain 0, taken before step 0: the step of the second's issue, and then of its Done.
     fn second(rt: &LibcRuntime, a: Request, b: Request, wanted: Event) -> Result<u32, Fail> {
@@ -78,8 +76,14 @@ mod tests {
     fn one_bank(rt: LibcRuntime) -> Result<(), Fail> {
         let read = request(0, 0, 5, Kind::Read);
         let write = request(0, 0, 5, Kind::Write);
-        check_eq(second(&rt, read, request(1, 0, 5, Kind::Read), Event::Issue(1))?, 39)?;
-        check_eq(second(&rt, write, request(1, 0, 5, Kind::Write), Event::Issue(1))?, 46)
+        check_eq(
+            second(&rt, read, request(1, 0, 5, Kind::Read), Event::Issue(1))?,
+            39,
+        )?;
+        check_eq(
+            second(&rt, write, request(1, 0, 5, Kind::Write), Event::Issue(1))?,
+            46,
+        )
     }
 
     #[test]

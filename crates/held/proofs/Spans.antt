@@ -1,5 +1,5 @@
 -- The span. In a class of requests the next is issued within some steps, and each further one within a period more;
--- each is done within the longest-delay delay after its issue.
+-- each is done within the longest delay after its issue.
 use mathlib.Core.Path.{_≡_, refl, sym, ap, _∙_, subst}
 use mathlib.Core.List.{List, [], _∷_, _++_, map}
 use mathlib.Core.Bool.{Bool, true, false, cond, _&&_}
@@ -77,7 +77,7 @@ module _ (period : ℕ) (k : Request → Bool) where
   timely-append-at false w n m q Waiting l hs le ih a t = (a, ih w (omega arith) t)
   timely-append-at b w n m q (Issued j) l hs le ih a t = (a, ih w (omega arith) t)
 
-  -- The key to a span of n: it has room for w steps, a period for each request that is held, and the longest-delay delay.
+  -- The key to a span of n: it has room for w steps, a period for each request that is held, and the longest delay.
   pub timely-append : (hs : List Entry) (q : Request) (w n : ℕ) → w + times period (length hs) + longest-delay ≤ n → Timely w hs → Timely w (hs ++ (new-entry n q ∷ []))
   timely-append [] q w n le t = (new-in-time (k q) w n (omega arith), tt)
   timely-append (h ∷ hs) q w n le t = timely-append-at (k (h .request)) w n (times period (length hs)) q (h .stage) (h .left) hs le (λ w′. timely-append hs q w′ n) (t .0) (t .1)
@@ -104,7 +104,7 @@ module _ (period : ℕ) (k : Request → Bool) where
   none-at true u v q (Issued n) l hs kb ih e a t = (a, ih (sym (ap (λ b. cond (b && false) (Some (record { request = q; stage = Issued n; left = l })) (next-of k hs)) kb) ∙ e) t)
   none-at false u v q (Issued n) l hs kb ih e a t = (a, ih (sym (ap (λ b. cond (b && false) (Some (record { request = q; stage = Issued n; left = l })) (next-of k hs)) kb) ∙ e) t)
 
-  -- is-empty of the class waits
+  -- none of the class waits
   pub timely-none : (hs : List Entry) (u v : ℕ) → next-of k hs ≡ None → Timely v hs → Timely u hs
   timely-none [] u v e t = tt
   timely-none (h ∷ hs) u v e t = none-at (k (h .request)) u v (h .request) (h .stage) (h .left) hs refl (timely-none hs u v) e (t .0) (t .1)

@@ -271,13 +271,13 @@ stepped-proper hs ls es a st n = ⊎-elim moved sent st
         (λ t. subst (λ j. (standing j (map reading-of hs) ≡ Standing.waiting) × (events-of j (dones (map later hs)) ≡ [])) (eqb-true _ _ t) (next-stands (m .0) hs h a (m .2)))
         (proper-dones n hs a)))
 
--- ---- request is due
+-- ---- steps left
 
 abbrev pub Enough : Stage → ℕ → Type 0
 Enough Waiting left = 1 ≤ left
 Enough (Issued n) left = n ≤ left
 
--- no request that waits has its last step behind it, and one that flies is done in time
+-- no request that waits has its last step behind it, and one that is issued is done in time
 abbrev pub Ample : List Entry → Type 0
 Ample [] = Unit {0}
 Ample (h ∷ hs) = Enough (h .stage) (h .left) × Ample hs

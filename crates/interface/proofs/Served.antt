@@ -8,7 +8,7 @@ use native.Mathlib.Omega.{arith}
 use Rattle.interface.specs.declared.Request.{Request}
 use Rattle.interface.specs.History.{Taking, Occurrence, Issuance, First, Served, issuances}
 
--- the takings that failing wait
+-- the takings that still wait
 abbrev pub pending : List Taking → List Occurrence → List Taking
 pending [] is = []
 pending (k ∷ ks) [] = k ∷ ks

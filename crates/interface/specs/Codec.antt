@@ -56,7 +56,7 @@ gets-back {X} c (x ∷ xs) s =
 pub many : {X : Type 0} → Codec X → Codec (List X)
 many c = record { put = λ xs s. length xs ∷ puts c xs s; get = λ s. gets c (head s) (rest s); back = λ xs s. gets-back c xs s }
 
--- ---- request controllers hold
+-- ---- what controllers hold
 
 abbrev kind-code : Kind → ℕ
 kind-code Read = 0

@@ -1,4 +1,4 @@
--- A kind of controller may say request it means over states of any type, and then how such a state is a list of numbers.
+-- A kind of controller may say what it means over states of any type, and then how such a state is a list of numbers.
 use mathlib.Core.List.{List}
 use Prim.Native.Nat.{ℕ}
 use Rattle.interface.specs.Meaning.{Meaning}

@@ -20,7 +20,7 @@ use Rattle.layer.specs.declared.forward.Forward.the-variants.{Issues, All}
 use Rattle.layer.specs.Entries.{slot-of-entry}
 use Rattle.layer.specs.Forwards.{forwards, forwarded}
 use Rattle.layer.specs.Contents.{added, all-added}
-use Rattle.layer.proofs.Hearing.{has, nobody, stage, EachProper, absent-none}
+use Rattle.layer.proofs.Receiving.{has, nobody, stage, EachProper, absent-none}
 
 -- ---- adding
 

@@ -1,5 +1,5 @@
 pub mod Tables
-pub mod Hearing
+pub mod Receiving
 pub mod Readiness
 pub mod Counts
 pub mod Synced

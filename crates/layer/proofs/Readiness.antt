@@ -15,7 +15,7 @@ use Rattle.interface.proofs.Bools.{or-false, or-left, eqb-comm, same}
 use Rattle.interface.proofs.Slots.{Apart, done-more}
 use Rattle.layer.specs.declared.entry.Entry.{Entry}
 use Rattle.layer.specs.Entries.{new-entry, slot-of-entry}
-use Rattle.layer.proofs.Hearing.{has}
+use Rattle.layer.proofs.Receiving.{has}
 
 module _ (p : Entry → Bool) where
   abbrev pub Ready : List Event → List Entry → Type 0

@@ -22,7 +22,7 @@ use Rattle.interface.proofs.Takes.{take-fine}
 use Rattle.layer.specs.declared.entry.Entry.{Entry}
 use Rattle.layer.specs.Entries.{new-entry, slot-of-entry, done-below, is-due, reading}
 use Rattle.layer.specs.Contents.{Contents, admission, dones-due}
-use Rattle.layer.proofs.Hearing.{has, moved, away, nobody, EachProper, each-proper, others-none}
+use Rattle.layer.proofs.Receiving.{has, moved, away, nobody, EachProper, each-proper, others-none}
 
 -- ---- calls that are not refused
 
@@ -264,19 +264,19 @@ module _ (r : Meaning (List ℕ)) (l : Lawful r) where
         subst (λ hs. Proper (standing n hs) (events-of n (events-below b))) (g .sync)
         (subst (λ x. Proper (standing n (r .held b)) (events-of n (r .ready x))) (sym (step-is b ws g)) (l .stepped-proper b (g .re) (g .quiet) n))
 
-    -- what is heard of a step
-    pub proper-heard : (b : List ℕ) (ws : List Entry) → Synced r other b ws → Apart slot-of-entry ws → EachProper other (events-below b) ws
-    proper-heard b ws g a = each-proper other (r .span b) (events-below b) ws a (λ n k. proper-below b ws g n)
+    -- what is received of a step
+    pub proper-received : (b : List ℕ) (ws : List Entry) → Synced r other b ws → Apart slot-of-entry ws → EachProper other (events-below b) ws
+    proper-received b ws g a = each-proper other (r .span b) (events-below b) ws a (λ n k. proper-below b ws g n)
 
-    pub none-heard : (b : List ℕ) (ws : List Entry) → Synced r other b ws → (n : ℕ) → any (has n) ws ≡ false → events-of n (events-below b) ≡ []
-    none-heard b ws g n e = others-none other (r .span b) n (events-below b) ws e (proper-below b ws g n)
+    pub none-received : (b : List ℕ) (ws : List Entry) → Synced r other b ws → (n : ℕ) → any (has n) ws ≡ false → events-of n (events-below b) ≡ []
+    none-received b ws g n e = others-none other (r .span b) n (events-below b) ws e (proper-below b ws g n)
 
-    pub punctual-heard : (b : List ℕ) (ws : List Entry) → Synced r other b ws → EachPunctual other (r .span b) (events-below b) ws
-    punctual-heard b ws g =
+    pub punctual-received : (b : List ℕ) (ws : List Entry) → Synced r other b ws → EachPunctual other (r .span b) (events-below b) ws
+    punctual-received b ws g =
         each-punctual other (r .span b) (events-below b) ws
         (subst (λ hs. Punctual hs (events-below b)) (held-stepped b ws g) (subst (λ x. Punctual (r .held x) (r .ready x)) (sym (step-is b ws g)) (l .stepped-punctual b (g .re) (g .quiet))))
 
-    -- a step, in which the layer hears the events es in all
+    -- a step, in which the layer receives the events es in all
     pub synced-step : (b : List ℕ) (ws : List Entry) (es : List Event) → r .span b < 2 ^ 64 → Synced r other b ws → Agree other (events-below b) es ws → Synced r other (below-after b) (map (moved es) ws)
     synced-step b ws es h g a =
         let m = below-emptied (events-below b) (after r Call.step b) (reached-after r Call.step b (g .re)) refl in

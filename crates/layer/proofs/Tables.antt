@@ -64,12 +64,12 @@ gathered-more f e es t =
 pub gathered-none : (f : Forward) (t : Contents) → t ≡ gathered f [] t
 gathered-none f t = contents-path t (gathered f [] t) (map-same (updated []) (t .held) updated-none) refl
 
--- an event that is heard, by whether it is handed on
-pub heard-on : (f : Forward) (e : Event) (us : List Event) (t : Contents) → forwards f e ≡ true → us ≡ added e (t .events) → us ≡ gathered f (e ∷ []) t .events
-heard-on f e us t b k = k ∙ ap (λ v. all-added (cond v (e ∷ []) []) (t .events)) (sym b)
+-- an event that is received, by whether it is handed on
+pub forwarded-on : (f : Forward) (e : Event) (us : List Event) (t : Contents) → forwards f e ≡ true → us ≡ added e (t .events) → us ≡ gathered f (e ∷ []) t .events
+forwarded-on f e us t b k = k ∙ ap (λ v. all-added (cond v (e ∷ []) []) (t .events)) (sym b)
 
-pub heard-kept : (f : Forward) (e : Event) (t : Contents) → forwards f e ≡ false → t .events ≡ gathered f (e ∷ []) t .events
-heard-kept f e t b = ap (λ v. all-added (cond v (e ∷ []) []) (t .events)) (sym b)
+pub not-forwarded : (f : Forward) (e : Event) (t : Contents) → forwards f e ≡ false → t .events ≡ gathered f (e ∷ []) t .events
+not-forwarded f e t b = ap (λ v. all-added (cond v (e ∷ []) []) (t .events)) (sym b)
 
 -- ---- slots
 

@@ -26,13 +26,13 @@ use Rattle.layer.specs.Forwards.{forwarded}
 use Rattle.layer.specs.Contents.{Contents, dones-due, collected}
 use Rattle.layer.specs.Collects.{collects}
 use Rattle.layer.proofs.Tables.{any-append}
-use Rattle.layer.proofs.Hearing.{has, moved, nobody, stage, EachProper, absent-none, no-ends, is-done, ends-of, proper-all}
+use Rattle.layer.proofs.Receiving.{has, moved, nobody, stage, EachProper, absent-none, no-ends, is-done, ends-of, proper-all}
 use Rattle.layer.proofs.Readiness.{Ready, ready-append, ready-issue, ready-dropped, ready-dones}
 use Rattle.layer.proofs.Synced.{take-accepted}
 use Rattle.layer.proofs.Collecting.{traced-then, traced-collects, run-collects}
 use Rattle.level.specs.Level.{State, beginning, wait, meaning-over, level-codes, level-of, level-back}
 use Rattle.level.specs.Laws.{passed-down, calls-below, first-steps, steps-of, Delayed, Delays, Levels}
-use Rattle.level.proofs.Lawfulness.{Good, traced-issues, good-start, good-take, good-collect, good-tidy, events-of-step, tidy, tidy-is, heard, others, proper-tidy, fine}
+use Rattle.level.proofs.Lawfulness.{Good, traced-issues, good-start, good-take, good-collect, good-tidy, events-of-step, tidy, tidy-is, each-received, others, proper-tidy, fine}
 use Rattle.level.proofs.Endings.{Pending, Stands, at-step, stands-taken, stands-collected, stands-still, stands-stepped, stands-delayed}
 
 -- ---- the entry of a slot
@@ -262,30 +262,30 @@ module _ (m : Meaning (List ℕ)) (l : Lawful m) (short : (s : List ℕ) → m .
 
     -- ---- a step
 
-    abbrev heard-below : State → List Event
-    heard-below s = events-of-step m l short s
+    abbrev received : State → List Event
+    received s = events-of-step m l short s
 
     -- the events of the level, where d is its number L
     abbrev own-events : State → ℕ → List Event
-    own-events s d = forwarded Issues (heard-below s) ++ dones-due d (map (moved (heard-below s)) (s .table .held))
+    own-events s d = forwarded Issues (received s) ++ dones-due d (map (moved (received s)) (s .table .held))
 
     abbrev next : State → ℕ → State
-    next s d = record { delay = s .delay; table = record { held = map (moved (heard-below s)) (s .table .held); events = own-events s d }; below = tidy m l short s .below }
+    next s d = record { delay = s .delay; table = record { held = map (moved (received s)) (s .table .held); events = own-events s d }; below = tidy m l short s .below }
 
     wait-is : (s : State) → s .delay ≡ L → wait s ≡ L
     wait-is s e = omega arith
 
-    below-dones : (s : State) (t : ℕ) → Good m s → (n : ℕ) → steps-of n (ended-in t (heard-below s)) ≡ at-step t (any (ends n) (heard-below s))
-    below-dones s t g n = step-dones n t (standing n (map (reading 0) (s .table .held))) (heard-below s) (proper-all n 0 (heard-below s) (s .table .held) (heard m l short s g) (others m l short s g n))
+    below-dones : (s : State) (t : ℕ) → Good m s → (n : ℕ) → steps-of n (ended-in t (received s)) ≡ at-step t (any (ends n) (received s))
+    below-dones s t g n = step-dones n t (standing n (map (reading 0) (s .table .held))) (received s) (proper-all n 0 (received s) (s .table .held) (each-received m l short s g) (others m l short s g n))
 
-    own-dones : (s : State) (t : ℕ) → Good m s → s .delay ≡ L → (n : ℕ) → steps-of n (ended-in t (own-events s L)) ≡ at-step t (any (ends n) (dones-due L (map (moved (heard-below s)) (s .table .held))))
+    own-dones : (s : State) (t : ℕ) → Good m s → s .delay ≡ L → (n : ℕ) → steps-of n (ended-in t (own-events s L)) ≡ at-step t (any (ends n) (dones-due L (map (moved (received s)) (s .table .held))))
     own-dones s t g e n =
         step-dones n t (standing n (meaning-over m .held s)) (own-events s L) (subst (λ d. Proper (standing n (meaning-over m .held s)) (events-of n (own-events s d))) (wait-is s e) (proper-tidy m l short s g n))
-        ∙ ap (at-step t) (own-ends n (heard-below s) (dones-due L (map (moved (heard-below s)) (s .table .held))))
+        ∙ ap (at-step t) (own-ends n (received s) (dones-due L (map (moved (received s)) (s .table .held))))
 
-    tracks-next : (s : State) (own below : History) → Tracks s own below → s .table .events ≡ [] → Tracks (next s L) (with-step own (own-events s L)) (with-step below (heard-below s))
+    tracks-next : (s : State) (own below : History) → Tracks s own below → s .table .events ≡ [] → Tracks (next s L) (with-step own (own-events s L)) (with-step below (received s))
     tracks-next s own below i e =
-        let es = heard-below s in
+        let es = received s in
         let ws = s .table .held in
         let vs = map (moved es) ws in
         let t = own .steps in
@@ -305,13 +305,13 @@ module _ (m : Meaning (List ℕ)) (l : Lawful m) (short : (s : List ℕ) → m .
               (sym (steps-of-append n (below .endings) (ended-in (below .steps) es) ∙ ap (λ k. steps-of n (below .endings) ++ steps-of n (ended-in k es)) (sym (i .steps)) ∙ ap (λ xs. steps-of n (below .endings) ++ xs) (below-dones s t (i .good) n)))
               (subst (Stands L (t + 1) (entry-at n vs) (first-steps n (own .takings)) (steps-of n (below .endings) ++ at-step t (any (ends n) es)))
               (sym (steps-of-append n (own .endings) (ended-in t (own-events s L)) ∙ ap (λ xs. steps-of n (own .endings) ++ xs) (own-dones s t (i .good) (i .delay) n)))
-              (stands-step L t small es n (first-steps n (own .takings)) (steps-of n (below .endings)) (steps-of n (own .endings)) ws (i .good .apart) (heard m l short s (i .good)) (others m l short s (i .good) n) none (i .stands n)));
+              (stands-step L t small es n (first-steps n (own .takings)) (steps-of n (below .endings)) (steps-of n (own .endings)) ws (i .good .apart) (each-received m l short s (i .good)) (others m l short s (i .good) n) none (i .stands n)));
         }
 
-    tracks-step : (s : State) (own below : History) → Tracks s own below → s .table .events ≡ [] → Tracks (meaning-over m .stepped s) (with-step own (meaning-over m .stepped s .table .events)) (with-step below (heard-below s))
+    tracks-step : (s : State) (own below : History) → Tracks s own below → s .table .events ≡ [] → Tracks (meaning-over m .stepped s) (with-step own (meaning-over m .stepped s .table .events)) (with-step below (received s))
     tracks-step s own below i e =
-        subst (λ y. Tracks y (with-step own (y .table .events)) (with-step below (heard-below s))) (sym (tidy-is m l short s (i .good) e))
-        (subst (λ d. Tracks (next s d) (with-step own (own-events s d)) (with-step below (heard-below s))) (sym (wait-is s (i .delay))) (tracks-next s own below i e))
+        subst (λ y. Tracks y (with-step own (y .table .events)) (with-step below (received s))) (sym (tidy-is m l short s (i .good) e))
+        (subst (λ d. Tracks (next s d) (with-step own (own-events s d)) (with-step below (received s))) (sym (wait-is s (i .delay))) (tracks-next s own below i e))
 
     -- ---- a call, and the calls that it makes below
 
@@ -326,13 +326,13 @@ module _ (m : Meaning (List ℕ)) (l : Lawful m) (short : (s : List ℕ) → m .
     call-take s own below q i (Some x) e = (i, refl)
 
     call-step : (s : State) (own below : History) → Tracks s own below → (v : Option ℕ) → step-refusal (meaning-over m) s ≡ v
-        → Passes (accepted v (Call.step ∷ collects (heard-below s)) []) s below (accepted v (meaning-over m .stepped s) s) (accepted v (with-step own (accepted v (meaning-over m .stepped s) s .table .events)) own)
+        → Passes (accepted v (Call.step ∷ collects (received s)) []) s below (accepted v (meaning-over m .stepped s) s) (accepted v (with-step own (accepted v (meaning-over m .stepped s) s .table .events)) own)
     call-step s own below i None e =
         let noted-step = noted m Call.step (s .below) below in (
           subst (λ h. Tracks (meaning-over m .stepped s) (with-step own (meaning-over m .stepped s .table .events)) h)
-              (sym (traced-collects m (heard-below s) (after m Call.step (s .below)) noted-step ∙ ap (λ es. accepted (check (not (is-empty es)) 20 None) (with-step below (heard-below s)) below) (i .good .synced .quiet)))
+              (sym (traced-collects m (received s) (after m Call.step (s .below)) noted-step ∙ ap (λ es. accepted (check (not (is-empty es)) 20 None) (with-step below (received s)) below) (i .good .synced .quiet)))
               (tracks-step s own below i (step-ok (s .table .events) e)),
-          run-collects m l (heard-below s) (after m Call.step (s .below)) refl,
+          run-collects m l (received s) (after m Call.step (s .below)) refl,
         )
     call-step s own below i (Some x) e = (i, refl)
 

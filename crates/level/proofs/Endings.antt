@@ -19,7 +19,7 @@ use Rattle.interface.proofs.Bools.{or-false, same}
 use Rattle.interface.proofs.Slots.{Apart}
 use Rattle.layer.specs.declared.entry.Entry.{Entry}
 use Rattle.layer.specs.Entries.{new-entry, slot-of-entry, is-due, advanced, updated}
-use Rattle.layer.proofs.Hearing.{has, moved, absent-none}
+use Rattle.layer.proofs.Receiving.{has, moved, absent-none}
 use Rattle.level.specs.Laws.{first-steps, steps-of, done-at, Delayed}
 
 -- ---- all is done

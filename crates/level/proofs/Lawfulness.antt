@@ -25,9 +25,9 @@ use Rattle.layer.specs.Entries.{new-entry, slot-of-entry, done-below, updated, 
 use Rattle.layer.specs.Forwards.{forwarded}
 use Rattle.layer.specs.Contents.{Contents, all-added, dones-due, collected}
 use Rattle.layer.proofs.Tables.{contents-path, map-fuse}
-use Rattle.layer.proofs.Hearing.{has, moved, nobody, EachProper, DoneIssued, done-issued-dropped, done-issued-append, done-issued-step, events-of-forwarded, proper-released}
+use Rattle.layer.proofs.Receiving.{has, moved, nobody, EachProper, DoneIssued, done-issued-dropped, done-issued-append, done-issued-step, events-of-forwarded, proper-released}
 use Rattle.layer.proofs.Counts.{all-added-is, length-dones, few-issues}
-use Rattle.layer.proofs.Synced.{Synced, EachPunctual, agree-same, map-moved, new-reading, events-below, below-after, span-after, span-step, start-step, synced-start, synced-take, synced-drop, synced-step, proper-heard, none-heard, punctual-heard}
+use Rattle.layer.proofs.Synced.{Synced, EachPunctual, agree-same, map-moved, new-reading, events-below, below-after, span-after, span-step, start-step, synced-start, synced-take, synced-drop, synced-step, proper-received, none-received, punctual-received}
 use Rattle.level.specs.Level.{State, beginning, wait, span-over, stepped-over, meaning-over, level-codes, level-of, level-back, level-meaning}
 use Rattle.level.proofs.States.{state-path}
 
@@ -129,11 +129,11 @@ module _ (r : Meaning (List ℕ)) (l : Lawful r) (short : (s : List ℕ) → r .
     below = below-after r l (s .below);
   }
 
-  pub heard : (s : State) → Good r s → EachProper nobody (events-of-step s) (s .table .held)
-  heard s g = proper-heard r l nobody (s .below) (s .table .held) (g .synced) (g .apart)
+  pub each-received : (s : State) → Good r s → EachProper nobody (events-of-step s) (s .table .held)
+  each-received s g = proper-received r l nobody (s .below) (s .table .held) (g .synced) (g .apart)
 
   pub others : (s : State) → Good r s → (n : ℕ) → any (has n) (s .table .held) ≡ false → events-of n (events-of-step s) ≡ []
-  others s g = none-heard r l nobody (s .below) (s .table .held) (g .synced)
+  others s g = none-received r l nobody (s .below) (s .table .held) (g .synced)
 
   pub tidy-is : (s : State) → Good r s → s .table .events ≡ [] → meaning-over r .stepped s ≡ tidy s
   tidy-is s g e =
@@ -142,7 +142,7 @@ module _ (r : Meaning (List ℕ)) (l : Lawful r) (short : (s : List ℕ) → r .
       let us = map advanced (map (updated es) ws) in
       let vs = map (moved es) ws in
       let fuse : us ≡ vs = map-fuse advanced (updated es) (moved es) ws (λ w. refl) in
-      let a = few-issues es ws (g .apart) (heard s g) (others s g) in
+      let a = few-issues es ws (g .apart) (each-received s g) (others s g) in
       let b = length-dones slot-of-entry (is-due (wait s)) vs in
       let c = length-map ws (moved es) in
       let f = g .few in
@@ -165,7 +165,7 @@ module _ (r : Meaning (List ℕ)) (l : Lawful r) (short : (s : List ℕ) → r .
         synced = synced-step r l nobody (s .below) ws es (short (s .below)) (g .synced) (agree-same nobody es ws);
         apart = apart;
         few = omega arith;
-        issued = done-issued-step es ws (g .issued) (heard s g);
+        issued = done-issued-step es ws (g .issued) (each-received s g);
         traced = traced-issues done-below es (dones-due (wait s) (map (moved es) ws)) (map (moved es) ws) (traced-dones slot-of-entry done-below (is-due (wait s)) (λ w e. and-left _ _ e) (map (moved es) ws) apart);
       }
 
@@ -196,7 +196,7 @@ module _ (r : Meaning (List ℕ)) (l : Lawful r) (short : (s : List ℕ) → r .
       let es = events-of-step s in
       let ds = dones-due (wait s) (map (moved es) (s .table .held)) in
       subst (Proper (standing n (meaning-over r .held s))) (sym (events-of-append n (forwarded Issues es) ds ∙ ap (λ x. x ++ events-of n ds) (events-of-forwarded Issues n es)))
-      (proper-released n (span-over r s) (wait s) es (s .table .held) (g .apart) (g .issued) (heard s g) (others s g n))
+      (proper-released n (span-over r s) (wait s) es (s .table .held) (g .apart) (g .issued) (each-received s g) (others s g n))
 
   punctual-tidy : (s : State) → Good r s → Punctual (meaning-over r .held (tidy s)) (tidy s .table .events)
   punctual-tidy s g =
@@ -204,7 +204,7 @@ module _ (r : Meaning (List ℕ)) (l : Lawful r) (short : (s : List ℕ) → r .
       let ds = dones-due (wait s) (map (moved es) (s .table .held)) in
       let h = short (s .below) in
       subst (λ k. Punctual (map (reading k) (map (moved es) (s .table .held))) (tidy s .table .events)) (sym (span-tidy s))
-      (punctual-released (r .span (s .below)) (span-over r s) (wait s) es (tidy s .table .events) (s .table .held) h (omega arith) (omega arith) (punctual-heard r l nobody (s .below) (s .table .held) (g .synced)) (λ n t. ends-append n (forwarded Issues es) ds t))
+      (punctual-released (r .span (s .below)) (span-over r s) (wait s) es (tidy s .table .events) (s .table .held) h (omega arith) (omega arith) (punctual-received r l nobody (s .below) (s .table .held) (g .synced)) (λ n t. ends-append n (forwarded Issues es) ds t))
 
   fixed-take : (s : State) (q : Request) (v : Option ℕ) → meaning-over r .start (accepted v (meaning-over r .taken s q) s) ≡ meaning-over r .start s
   fixed-take s q None = ap (beginning (s .delay)) (l .start-fixed (Call.take q) (s .below))

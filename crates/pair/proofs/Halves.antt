@@ -1,4 +1,4 @@
--- What a pair hears of a step of both controllers.
+-- What a pair receives in a step of both controllers.
 use mathlib.Core.Path.{_≡_, refl, sym, ap, _∙_, subst}
 use mathlib.Core.List.{List, [], _∷_, _++_, map, append-nil}
 use mathlib.Core.Bool.{Bool, true, false, cond, not, _||_, _&&_}
@@ -17,7 +17,7 @@ use Rattle.interface.proofs.Slots.{events-of-append, marked, Traced, ends-appen
 use Rattle.layer.specs.declared.entry.Entry.{Entry}
 use Rattle.layer.specs.Entries.{slot-of-entry, done-below, reading}
 use Rattle.layer.proofs.Tables.{any-append}
-use Rattle.layer.proofs.Hearing.{has, moved, away, nobody, stage, EachProper, absent-none, no-issues, no-ends}
+use Rattle.layer.proofs.Receiving.{has, moved, away, nobody, stage, EachProper, absent-none, no-issues, no-ends}
 use Rattle.layer.proofs.Readiness.{Ready}
 use Rattle.layer.proofs.Synced.{Agree, EachPunctual}
 
@@ -61,7 +61,7 @@ module _ (other : Request → Bool) where
     sym (any-append (ends n) es ds ∙ ap (λ b. b || any (ends n) ds) (no-ends n es (absent-none _ p))),
   )
 
-  -- of its own requests each controller says what is heard in all
+  -- of its own requests each controller says what is received in all
   pub agree-first : (es ds : List Event) (ws : List Entry) → EachProper opposite ds ws → Agree other es (es ++ ds) ws
   agree-first es ds [] p = tt
   agree-first es ds (w ∷ ws) p = (first-alone (other (w .request)) (w .done) (w .request .slot) (stage w) es ds (p .0), agree-first es ds ws (p .1))
@@ -151,8 +151,8 @@ marked-moved n es [] e h = h
 marked-moved n es (w ∷ ws) e h = marked-moved-at n es w ws (has n w) refl e (marked-moved n es ws e) h
 
 -- the Dones of a step are of requests that are held and now done
-pub traced-heard : (es : List Event) (ws : List Entry) → ((n : ℕ) → Proper (standing n (map (reading 0) ws)) (events-of n es)) → ((n : ℕ) → any (has n) ws ≡ false → events-of n es ≡ []) → Traced slot-of-entry done-below es (map (moved es) ws)
-traced-heard es ws p h = traced-once es (map (moved es) ws) (once es (λ n. (standing n (map (reading 0) ws), p n))) (λ n e. marked-moved n es ws e (held n e))
+pub traced-received : (es : List Event) (ws : List Entry) → ((n : ℕ) → Proper (standing n (map (reading 0) ws)) (events-of n es)) → ((n : ℕ) → any (has n) ws ≡ false → events-of n es ≡ []) → Traced slot-of-entry done-below es (map (moved es) ws)
+traced-received es ws p h = traced-once es (map (moved es) ws) (once es (λ n. (standing n (map (reading 0) ws), p n))) (λ n e. marked-moved n es ws e (held n e))
   where
     held : (n : ℕ) → any (ends n) es ≡ true → any (has n) ws ≡ true
     held n e = go (any (has n) ws) refl

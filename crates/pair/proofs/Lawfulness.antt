@@ -22,12 +22,12 @@ use Rattle.layer.specs.Entries.{new-entry, slot-of-entry, done-below, updated, 
 use Rattle.layer.specs.Forwards.{forwarded}
 use Rattle.layer.specs.Contents.{Contents, all-added, collected}
 use Rattle.layer.proofs.Tables.{contents-path, map-fuse, updated-append}
-use Rattle.layer.proofs.Hearing.{has, moved, nobody, EachProper, proper-all}
+use Rattle.layer.proofs.Receiving.{has, moved, nobody, EachProper, proper-all}
 use Rattle.layer.proofs.Counts.{all-added-is, forwarded-all, few-events}
 use Rattle.layer.proofs.Readiness.{Ready, ready-append, ready-issue, ready-dropped}
-use Rattle.layer.proofs.Synced.{Synced, map-moved, new-reading, events-below, below-after, span-after, span-step, start-step, synced-start, synced-take, synced-other, synced-drop, synced-step, proper-heard, none-heard, punctual-heard}
+use Rattle.layer.proofs.Synced.{Synced, map-moved, new-reading, events-below, below-after, span-after, span-step, start-step, synced-start, synced-take, synced-other, synced-drop, synced-step, proper-received, none-received, punctual-received}
 use Rattle.pair.specs.Pair.{State, beginning, to-first, span-of, meaning-of, pair-codes, pair-of, pair-back, pair-meaning}
-use Rattle.pair.proofs.Halves.{opposite, each-of-two, agree-first, agree-second, none-of-two, traced-heard, done-ready-step, punctual-both}
+use Rattle.pair.proofs.Halves.{opposite, each-of-two, agree-first, agree-second, none-of-two, traced-received, done-ready-step, punctual-both}
 
 state-path : (a b : State) → a .table ≡ b .table → a .first ≡ b .first → a .second ≡ b .second → a ≡ b
 state-path a b t p q = λ i. record { table = t i; first = p i; second = q i }
@@ -132,24 +132,24 @@ module _ (m n : Meaning (List ℕ)) (k : Lawful m) (l : Lawful n) (short : (s : 
     second = below-after n l (s .second);
   }
 
-  heard-first : (s : State) → Good m n s → EachProper not-first (of-first s) (s .table .held)
-  heard-first s g = proper-heard m k not-first (s .first) (s .table .held) (g .one) (g .apart)
+  received-first : (s : State) → Good m n s → EachProper not-first (of-first s) (s .table .held)
+  received-first s g = proper-received m k not-first (s .first) (s .table .held) (g .one) (g .apart)
 
-  heard-second : (s : State) → Good m n s → EachProper not-second (of-second s) (s .table .held)
-  heard-second s g = proper-heard n l not-second (s .second) (s .table .held) (g .two) (g .apart)
+  received-second : (s : State) → Good m n s → EachProper not-second (of-second s) (s .table .held)
+  received-second s g = proper-received n l not-second (s .second) (s .table .held) (g .two) (g .apart)
 
-  heard : (s : State) → Good m n s → EachProper nobody (of-both s) (s .table .held)
-  heard s g = each-of-two not-first (of-first s) (of-second s) (s .table .held) (heard-first s g) (heard-second s g)
+  each-received : (s : State) → Good m n s → EachProper nobody (of-both s) (s .table .held)
+  each-received s g = each-of-two not-first (of-first s) (of-second s) (s .table .held) (received-first s g) (received-second s g)
 
   others : (s : State) → Good m n s → (i : ℕ) → any (has i) (s .table .held) ≡ false → events-of i (of-both s) ≡ []
-  others s g i e = none-of-two i (of-first s) (of-second s) (none-heard m k not-first (s .first) (s .table .held) (g .one) i e) (none-heard n l not-second (s .second) (s .table .held) (g .two) i e)
+  others s g i e = none-of-two i (of-first s) (of-second s) (none-received m k not-first (s .first) (s .table .held) (g .one) i e) (none-received n l not-second (s .second) (s .table .held) (g .two) i e)
 
   pub tidy-is : (s : State) → Good m n s → s .table .events ≡ [] → r .stepped s ≡ tidy s
   tidy-is s g e =
       let es = of-first s in
       let ds = of-second s in
       let ws = s .table .held in
-      let a = few-events (of-both s) ws (g .apart) (heard s g) (others s g) in
+      let a = few-events (of-both s) ws (g .apart) (each-received s g) (others s g) in
       let b = length-append es ds in
       let f = g .few in
       state-path (r .stepped s) (tidy s)
@@ -163,7 +163,7 @@ module _ (m n : Meaning (List ℕ)) (k : Lawful m) (l : Lawful n) (short : (s : 
       refl refl
 
   proper-tidy : (s : State) → Good m n s → (p i : ℕ) → Proper (standing i (map (reading p) (s .table .held))) (events-of i (of-both s))
-  proper-tidy s g p i = proper-all i p (of-both s) (s .table .held) (heard s g) (others s g i)
+  proper-tidy s g p i = proper-all i p (of-both s) (s .table .held) (each-received s g) (others s g i)
 
   pub good-tidy : (s : State) → Good m n s → Ready done-below [] (s .table .held) → Good m n (tidy s)
   good-tidy s g d =
@@ -171,12 +171,12 @@ module _ (m n : Meaning (List ℕ)) (k : Lawful m) (l : Lawful n) (short : (s : 
       let f = g .few in
       let c = length-map ws (moved (of-both s)) in
       record {
-        one = synced-step m k not-first (s .first) ws (of-both s) (short (s .first)) (g .one) (agree-first not-first (of-first s) (of-second s) ws (heard-second s g));
-        two = synced-step n l not-second (s .second) ws (of-both s) (brief (s .second)) (g .two) (agree-second not-first (of-first s) (of-second s) ws (heard-first s g));
+        one = synced-step m k not-first (s .first) ws (of-both s) (short (s .first)) (g .one) (agree-first not-first (of-first s) (of-second s) ws (received-second s g));
+        two = synced-step n l not-second (s .second) ws (of-both s) (brief (s .second)) (g .two) (agree-second not-first (of-first s) (of-second s) ws (received-first s g));
         apart = apart-map slot-of-entry (moved (of-both s)) (λ w. refl) ws (g .apart);
         few = omega arith;
         ready = done-ready-step (of-both s) ws d;
-        traced = traced-heard (of-both s) ws (proper-tidy s g 0) (others s g);
+        traced = traced-received (of-both s) ws (proper-tidy s g 0) (others s g);
       }
 
   pub none-done : (s : State) → Good m n s → s .table .events ≡ [] → Ready done-below [] (s .table .held)
@@ -205,7 +205,7 @@ module _ (m n : Meaning (List ℕ)) (k : Lawful m) (l : Lawful n) (short : (s : 
   punctual-tidy s g d =
       subst (λ x. Punctual (map (reading x) (map (moved (of-both s)) (s .table .held))) (of-both s)) (sym (span-tidy s))
       (punctual-both not-first (m .span (s .first)) (n .span (s .second)) (span-of m n s) (of-first s) (of-second s) (s .table .held) (span-fits s) (omega arith) (omega arith) d
-      (punctual-heard m k not-first (s .first) (s .table .held) (g .one)) (punctual-heard n l not-second (s .second) (s .table .held) (g .two)))
+      (punctual-received m k not-first (s .first) (s .table .held) (g .one)) (punctual-received n l not-second (s .second) (s .table .held) (g .two)))
 
   start-path : (a b c d : List ℕ) → a ≡ c → b ≡ d → beginning a b ≡ beginning c d
   start-path a b c d p q = ap (λ x. beginning x b) p ∙ ap (beginning c) q

@@ -1,6 +1,7 @@
 // The calls of a table.
 ghost use mathlib.Core.Path.{_≡_};
 ghost use mathlib.Core.List.{List, [], _∷_, _++_, map};
+ghost use mathlib.Core.Bool.{not};
 ghost use Prim.Native.Nat.{ℕ, _+_, _-_, _≤_, _<_};
 ghost use lib.ListN.{length};
 ghost use Rattle.std.specs.Of.Vec.{vec-len, vec-cap, vec-items};
@@ -39,11 +40,10 @@ impl Table {
         self.events.clear();
     }
 
-    // Whether no event is ready.
-    pub fn is_quiet(&self) -> bool
-        ensures { λ r. ⌜ r ≡ is-empty (contents (now (self .entry)) .events) ⌝ }
+    pub fn has_events(&self) -> bool
+        ensures { λ r. ⌜ r ≡ not (is-empty (contents (now (self .entry)) .events)) ⌝ }
     {
-        self.events.is_empty()
+        !self.events.is_empty()
     }
 
     fn holds(&self, slot: u16) -> bool
@@ -81,7 +81,7 @@ impl Table {
     }
 
     // Takes an event that came from below.
-    fn hear(&mut self, forward: Forward, event: Event)
+    fn receive(&mut self, forward: Forward, event: Event)
         ensures { λ _. ⌜ contents (now (self .exit)) ≡ gathered forward (event ∷ []) (contents (now (self .entry))) ⌝ }
     {
         update(self.held.as_mut_slice(), event);
@@ -96,7 +96,7 @@ impl Table {
         ensures after { λ _. ⌜ contents (now (self .exit)) ≡ gathered forward (meaning .ready (state (now (below .entry)))) (contents (now (self .entry))) ⌝ }
     {
         while let Some(event) = below.collect() {
-            self.hear(forward, event);
+            self.receive(forward, event);
         }
     }
 
@@ -119,7 +119,7 @@ impl Table {
         ensures answer { λ r. ⌜ r ≡ first (contents (now (self .entry)) .events) ⌝ }
         ensures after { λ _. ⌜ contents (now (self .exit)) ≡ collected (contents (now (self .entry))) ⌝ }
     {
-        if self.is_quiet() {
+        if !self.has_events() {
             return None;
         }
         let event = self.events.remove(0);

@@ -57,7 +57,7 @@ impl<C: Controller + Drop> Level<C> {
         ensures answer { λ r. ⌜ refused r ≡ step-refusal (meaning-over meaning) (view state (now (self .entry))) ⌝ }
         ensures after { λ r. ⌜ view state (now (self .exit)) ≡ accepted (refused r) (meaning-over meaning .stepped (view state (now (self .entry)))) (view state (now (self .entry))) ⌝ }
     {
-        if !self.table.is_quiet() {
+        if self.table.has_events() {
             return Err(Refusal::EventsReady);
         }
         let _ = self.below.step();

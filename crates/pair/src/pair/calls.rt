@@ -77,7 +77,7 @@ impl<A: Controller + Drop, B: Controller + Drop> Pair<A, B> {
         ensures answer { λ r. ⌜ refused r ≡ step-refusal (meaning-of (A·Controller .meaning) (B·Controller .meaning)) (view (A·Controller .state) (B·Controller .state) (now (self .entry))) ⌝ }
         ensures after { λ r. ⌜ view (A·Controller .state) (B·Controller .state) (now (self .exit)) ≡ accepted (refused r) (meaning-of (A·Controller .meaning) (B·Controller .meaning) .stepped (view (A·Controller .state) (B·Controller .state) (now (self .entry)))) (view (A·Controller .state) (B·Controller .state) (now (self .entry))) ⌝ }
     {
-        if !self.table.is_quiet() {
+        if self.table.has_events() {
             return Err(Refusal::EventsReady);
         }
         let _ = self.first.step();

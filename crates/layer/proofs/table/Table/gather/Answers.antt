@@ -17,7 +17,7 @@ loop-event-again g c =
     let went = c .collect .ensures .after in
     let front = turn-ready (m .meaning) l s t e some went in (
       turn-emptied (m .meaning) l s t e some went ∙ c .loop-event .inv .0,
-      ap (gathered f (m .meaning .ready t)) (c .hear .ensures) ∙ gathered-more f e (m .meaning .ready t) (contents (c .loop-event .self))
+      ap (gathered f (m .meaning .ready t)) (c .receive .ensures) ∙ gathered-more f e (m .meaning .ready t) (contents (c .loop-event .self))
           ∙ ap (λ es. gathered f es (contents (c .loop-event .self))) (sym front) ∙ c .loop-event .inv .1,
     )
 

@@ -6,8 +6,8 @@ use Rattle.std.specs.Changed.{refilled}
 use Rattle.std.proofs.shelf.Lists.{refilled-is}
 use Rattle.layer.specs.Entries.{updated}
 use Rattle.layer.specs.Contents.{Contents, contents, gathered}
-use Rattle.layer.proofs.Tables.{contents-path, heard-on, heard-kept}
-use Rattle.layer.proofs.table.Table.hear.Needs as need
+use Rattle.layer.proofs.Tables.{contents-path, forwarded-on, not-forwarded}
+use Rattle.layer.proofs.table.Table.receive.Needs as need
 
 pub returns-then-forwards : need.returns-then-forwards
 returns-then-forwards c =
@@ -18,7 +18,7 @@ returns-then-forwards c =
     let new : ws ≡ map f (t .held) = c .update .ensures ∙ ap (map f) (c .as-mut-slice .ensures .value) in
     let long : length ws ≡ hs .len = ap length new ∙ length-map (t .held) f ∙ sym (hs .ok .0) in
     contents-path (record { held = vec-items (refilled hs ws); events = vec-items (c .add .last .events) }) (gathered (c .args .forward) (c .args .event ∷ []) t) (refilled-is hs ws long ∙ new)
-    (heard-on (c .args .forward) (c .args .event) _ t (sym (c .if-forwards .ensures tt)) (c .add .ensures .items))
+    (forwarded-on (c .args .forward) (c .args .event) _ t (sym (c .if-forwards .ensures tt)) (c .add .ensures .items))
 
 pub returns-else-forwards : need.returns-else-forwards
 returns-else-forwards c =
@@ -29,4 +29,4 @@ returns-else-forwards c =
     let new : ws ≡ map f (t .held) = c .update .ensures ∙ ap (map f) (c .as-mut-slice .ensures .value) in
     let long : length ws ≡ hs .len = ap length new ∙ length-map (t .held) f ∙ sym (hs .ok .0) in
     contents-path (record { held = vec-items (refilled hs ws); events = t .events }) (gathered (c .args .forward) (c .args .event ∷ []) t) (refilled-is hs ws long ∙ new)
-    (heard-kept (c .args .forward) (c .args .event) t (sym (c .if-forwards .ensures tt)))
+    (not-forwarded (c .args .forward) (c .args .event) t (sym (c .if-forwards .ensures tt)))

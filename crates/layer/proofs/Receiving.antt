@@ -1,4 +1,4 @@
--- What a layer hears of a step below: the events of each held request are proper, and other slots have none.
+-- What a layer receives in a step below: the events of each held request are proper, and other slots have none.
 use mathlib.Core.Path.{_≡_, refl, sym, ap, _∙_, subst}
 use mathlib.Core.List.{List, [], _∷_, _++_, map}
 use mathlib.Core.Bool.{Bool, true, false, cond, _||_, _&&_}
