@@ -58,6 +58,7 @@ pub data State : Type 0 where
 abbrev pub new : Meaning (List ℕ) → List ℕ → State
 new m b = setting blank (m .start b)
 
+-- the number that the next tick has
 abbrev pub next-tick : State → ℕ
 next-tick (setting c s) = c .first
 next-tick (running c x) = x .tick
@@ -68,6 +69,7 @@ limit = 10 ^ 18
 
 -- ---- settings
 
+-- the settings after an accepted setting call
 unfoldable pub settled : Settings → Setting → Settings
 settled c (opens d n) = record { first = c .first; roles = set (c .roles) d (opened n) }
 settled c (lane d vs es rest) = record { first = c .first; roles = set (c .roles) d (protected (patterns-of (role-of c d) ++ (record { spots = vs; edges = map edge-of es; rest = rest } ∷ []))) }
@@ -77,6 +79,7 @@ settled c (first n) = record { first = n; roles = c .roles }
 unfoldable pub too-many : ℕ → Settings → Bool
 too-many places c = ltb places (length (all-slots c))
 
+-- why a setting call is refused, in the order of the checks, over a controller with so many places
 unfoldable pub setting-refusal : ℕ → Settings → Setting → Option ℕ
 setting-refusal places c (opens d n) =
     check (ltb 7 d || not (is-unset (role-of c d))) 2
@@ -106,6 +109,7 @@ serves d b k (v ∷ vs) = (eqb (domain-of (v .slot)) d && alike (v .bank) (v .ki
 abbrev pub slot-in-turn : ℕ → ℕ → ℕ → ℕ
 slot-in-turn d share i = d * 64 + i % share
 
+-- why an open domain, or a protected one, refuses a request
 unfoldable pub role-refusal : Settings → Running → ℕ → ℕ → Kind → Role → Option ℕ
 role-refusal c x d b k unset = None
 role-refusal c x d b k (opened share) = check (not (is-still (x .tables .stage (slot-in-turn d share (x .serial d))))) 14 None
@@ -113,6 +117,7 @@ role-refusal c x d b k (protected ps) =
     check (not (serves d b k (vertices c))) 12
     (check (ltb 15 (length (x .tables .queue d))) 13 None)
 
+-- why a submit is refused, in the order of the checks
 unfoldable pub submit-refusal : Settings → Running → ℕ → ℕ → Kind → ℕ → Option ℕ
 submit-refusal c x d b k row =
     check (is-unset (role-of c d)) 8
@@ -139,6 +144,7 @@ taken-open m x d b k p slot = record {
   serial = put (x .serial) d (suc (x .serial d));
 }
 
+-- the state after an accepted submit, by the domain's role
 unfoldable pub submitted : Meaning (List ℕ) → Running → ℕ → ℕ → Kind → ℕ → Role → Running
 submitted m x d b k row unset = x
 submitted m x d b k row (opened share) = taken-open m x d b k (Real row (x .serial d)) (slot-in-turn d share (x .serial d))
@@ -152,9 +158,11 @@ submit-lines x d b k row (protected ps) = []
 
 -- ---- tick
 
+-- why a tick is refused, with buffers for l lines and n notices
 unfoldable pub tick-refusal : Running → ℕ → ℕ → Option ℕ
 tick-refusal x l n = check (ltb l 96 || ltb n 32) 15 (check (leb limit (x .tick)) 16 None)
 
+-- the state after an accepted tick
 unfoldable pub ticked : Meaning (List ℕ) → Settings → Running → Running
 ticked m c x = record {
   tick = suc (x .tick);
@@ -182,6 +190,7 @@ submit-outcome m c x d b k row = record { after = running c (submitted m x d b k
 abbrev pub tick-outcome : Meaning (List ℕ) → Settings → Running → Outcome
 tick-outcome m c x = record { after = running c (ticked m c x); reply = wrote (lines m c (x .tick) (x .controller) (x .tables)) (notices m c (x .tick) (x .controller) (x .tables)); bus = lines m c (x .tick) (x .controller) (x .tables) }
 
+-- A call to a scheduler in either phase, over a controller of this kind. In the wrong phase it is refused with 1.
 unfoldable pub outcome : Meaning (List ℕ) → State → Call → Outcome
 outcome m (setting c s) (sets z) = unless (setting-refusal (m .places s) c z) (setting c s) (record { after = setting (settled c z) s; reply = good; bus = [] })
 outcome m (setting c s) begins = record { after = running c (started c s); reply = good; bus = [] }

@@ -24,11 +24,13 @@ pub record Settings : Type 0 where
   pub first : ℕ
   pub roles : List Role
 
+-- as nothing is set
 abbrev pub blank : Settings
 blank = record { first = 0; roles = replicate 8 unset }
 
 -- ---- domains
 
+-- a domain above 7 is not set
 abbrev pub role-of : Settings → ℕ → Role
 role-of c d = getD (c .roles) d unset
 
@@ -79,9 +81,11 @@ unfoldable pub vertices-from : ℕ → ℕ → List Edge → List VertexSetting 
 vertices-from base i es [] = []
 vertices-from base i es (v ∷ vs) = record { slot = base + i; bank = v .bank; kind = v .kind; edges = es } ∷ vertices-from base (suc i) es vs
 
+-- the vertices of a lane
 unfoldable pub lane-vertices : Settings → ℕ → List Vertex
 lane-vertices c ℓ = vertices-from (ℓ * 8) 0 (pattern-at c ℓ .edges) (pattern-at c ℓ .spots)
 
+-- those of the lanes below ℓ
 unfoldable pub vertices-below : Settings → ℕ → List Vertex
 vertices-below c zero = []
 vertices-below c (suc ℓ) = vertices-below c ℓ ++ lane-vertices c ℓ
@@ -94,6 +98,7 @@ abbrev pub slots-of : List Vertex → List ℕ
 slots-of [] = []
 slots-of (v ∷ vs) = v .slot ∷ slots-of vs
 
+-- n slots from a on
 unfoldable pub slots-from : ℕ → ℕ → List ℕ
 slots-from a zero = []
 slots-from a (suc n) = a ∷ slots-from (suc a) n

@@ -37,6 +37,7 @@ pub record Tables : Type 0 where
 
 -- ---- tables
 
+-- the same function, but for x at i
 abbrev pub put : {X : Type 0} → (ℕ → X) → ℕ → X → ℕ → X
 put f i x j = cond (eqb j i) x (f j)
 
@@ -55,19 +56,23 @@ written out f (x ∷ xs) b = out x b ++ written out f xs (f x b)
 
 -- ---- 1. events
 
+-- a fake has row 0
 abbrev pub row-of : Payload → ℕ
 row-of Fake = 0
 row-of (Real row serial) = row
 
+-- the line of a slot in flight; a slot that is not has none
 abbrev pub line-of : Letter → ℕ → ℕ → Stage → List Line
 line-of l n slot still = []
 line-of l n slot (flying b k p) = record { letter = l; tick = n; domain = domain-of slot; slot = slot; bank = b; kind = k; row = row-of p } ∷ []
 line-of l n slot (done m) = []
 
+-- the notice of a real request; a fake has none
 abbrev pub payload-notice : ℕ → ℕ → Payload → List Notice
 payload-notice n d Fake = []
 payload-notice n d (Real row serial) = record { tick = n; domain = d; serial = serial } ∷ []
 
+-- the notice of a slot in flight
 abbrev pub notice-of : ℕ → ℕ → Stage → List Notice
 notice-of n slot still = []
 notice-of n slot (flying b k p) = payload-notice n (domain-of slot) p
@@ -95,6 +100,7 @@ completed c n (Done t) b = with-stage b (put (b .stage) t (finished (is-open c (
 
 -- ---- 2. rounds
 
+-- the tick of the Done, once it has come
 abbrev pub done-tick : Stage → Option ℕ
 done-tick still = None
 done-tick (flying b k p) = None
@@ -108,6 +114,7 @@ done-in s ℓ i = done-tick (s (ℓ * 8 + i))
 unfoldable pub lane-end : Settings → (ℕ → Stage) → ℕ → Option ℕ
 lane-end c s ℓ = round-end (done-in s ℓ) (length (pattern-at c ℓ .spots))
 
+-- a stage where the round has ended or not: what is done becomes still
 abbrev pub renewed : Option ℕ → Stage → Stage
 renewed None x = x
 renewed (Some m) still = still
@@ -128,6 +135,7 @@ rounds c b = record {
 unfoldable pub due-tick : Tables → Vertex → Option ℕ
 due-tick b v = due (b .start (lane-of (v .slot))) (done-in (b .stage) (lane-of (v .slot))) (v .edges) (v .slot % 8)
 
+-- the due tick is there, and is n or earlier
 abbrev pub is-due : ℕ → Option ℕ → Bool
 is-due n None = false
 is-due n (Some m) = leb m n
@@ -141,6 +149,7 @@ is-still (done m) = false
 unfoldable pub leaves : ℕ → Tables → Vertex → Bool
 leaves n b v = is-still (b .stage (v .slot)) && is-due n (due-tick b v)
 
+-- those that leave, in the order given
 unfoldable pub leaving : ℕ → Tables → List Vertex → List Vertex
 leaving n b [] = []
 leaving n b (v ∷ vs) = cond (leaves n b v) (v ∷ leaving n b vs) (leaving n b vs)
@@ -155,6 +164,7 @@ same-kind Write Write = true
 abbrev pub alike : ℕ → Kind → ℕ → Kind → Bool
 alike b k b′ k′ = eqb b b′ && same-kind k k′
 
+-- whether a waiting request has this bank and kind
 abbrev pub matches : ℕ → Kind → Waiting → Bool
 matches b k w = alike (w .bank) (w .kind) b k
 
@@ -172,6 +182,7 @@ without b k (w ∷ ws) = cond (matches b k w) ws (w ∷ without b k ws)
 unfoldable pub payload-for : Vertex → Tables → Payload
 payload-for v b = oldest (v .bank) (v .kind) (b .queue (domain-of (v .slot)))
 
+-- a vertex leaves: it flies with its payload, which leaves the queue
 unfoldable pub departed : Vertex → Tables → Tables
 departed v b = record {
   stage = put (b .stage) (v .slot) (flying (v .bank) (v .kind) (payload-for v b));
@@ -179,6 +190,7 @@ departed v b = record {
   queue = put (b .queue) (domain-of (v .slot)) (without (v .bank) (v .kind) (b .queue (domain-of (v .slot))));
 }
 
+-- a T line
 unfoldable pub take-line : ℕ → Vertex → Tables → List Line
 take-line n v b = line-of letter.T n (v .slot) (flying (v .bank) (v .kind) (payload-for v b))
 
@@ -189,6 +201,7 @@ request-of v = record { slot = v .slot; domain = domain-of (v .slot); bank = v .
 -- ---- a whole tick, numbered n, from the controller's state s and the tables b
 
 module _ (m : Meaning (List ℕ)) where
+  -- the controller's state after it took the slots of these vertices, one after the other
   unfoldable pub taken-all : List Vertex → List ℕ → List ℕ
   taken-all [] s = s
   taken-all (v ∷ vs) s = taken-all vs (after m (Call.take (request-of v)) s)
@@ -197,9 +210,11 @@ module _ (m : Meaning (List ℕ)) where
   unfoldable pub step-events : List ℕ → List Event
   step-events s = m .ready (after m Call.step s)
 
+  -- the tables after the events of tick n
   unfoldable pub after-events : Settings → ℕ → List ℕ → Tables → Tables
   after-events c n s b = through (completed c n) (step-events s) b
 
+  -- and after the lanes got their next starts
   unfoldable pub after-rounds : Settings → ℕ → List ℕ → Tables → Tables
   after-rounds c n s b = rounds c (after-events c n s b)
 
@@ -207,14 +222,18 @@ module _ (m : Meaning (List ℕ)) where
   unfoldable pub departures : Settings → ℕ → List ℕ → Tables → List Vertex
   departures c n s b = leaving n (after-rounds c n s b) (vertices c)
 
+  -- the tables after the tick
   unfoldable pub after-tick : Settings → ℕ → List ℕ → Tables → Tables
   after-tick c n s b = through departed (departures c n s b) (after-rounds c n s b)
 
+  -- the controller's state after the tick: stepped, emptied, and with all that leave taken
   unfoldable pub controller-after : Settings → ℕ → List ℕ → Tables → List ℕ
   controller-after c n s b = taken-all (departures c n s b) (emptied m (step-events s) (after m Call.step s))
 
+  -- the lines of the tick
   unfoldable pub lines : Settings → ℕ → List ℕ → Tables → List Line
   lines c n s b = written (event-line n) (completed c n) (step-events s) b ++ written (take-line n) departed (departures c n s b) (after-rounds c n s b)
 
+  -- the notices of the tick
   unfoldable pub notices : Settings → ℕ → List ℕ → Tables → List Notice
   notices c n s b = written (event-notice n) (completed c n) (step-events s) b

@@ -124,7 +124,7 @@ unfolding vertices lane-vertices
 placed c h = both-all _ _ (vertices-below c 64) (all-weaker _ _ (λ v k. omega arith) (vertices-below c 64) (apart-below c h 64 .1)) (below-all _ c 64 (λ ℓ k. bank-from (ℓ * 8) 0 (pattern-at c ℓ .edges) (pattern-at c ℓ .spots) (pattern-small c ℓ h .banks)))
 
 -- leaving
-in-here : (v : Vertex) (vs : List Vertex) → In v vs → in-slots (v .slot) vs ≡ true
+pub in-here : (v : Vertex) (vs : List Vertex) → In v vs → in-slots (v .slot) vs ≡ true
 in-here v [] i = elim i [ ]
 in-here v (w ∷ ws) (inl e) = rw (eq-eqb (w .slot) (v .slot) (ap (λ u. u .slot) (sym e)))
 in-here v (w ∷ ws) (inr i) = or-yes (eqb (w .slot) (v .slot)) (in-here v ws i)

@@ -13,7 +13,8 @@ use Rattle.interface.specs.Meaning as controller
 use Rattle.interface.specs.Meaning.{Meaning, after, take-refusal, step-refusal}
 use Rattle.interface.specs.declared.Kind.{Kind}
 use Rattle.model.specs.Calls.{Call, submit, Reply, refused, good, serial, wrote, Running, running, new, limit, submit-refusal, slot-in-turn, outcome}
-use Rattle.model.specs.Settings.{Pattern, Settings, opened, protected, Vertex, role-of, is-open, pattern-at}
+use Rattle.model.specs.Settings.{Pattern, Settings, opened, protected, Vertex, role-of, is-open, domain-of, pattern-at, vertices}
+use Rattle.model.specs.declared.Line.{Line}
 use Rattle.model.specs.Ticks.{request-of, step-events, departures}
 use Rattle.run_laws.specs.Departures.{takes-of, dones-of, Departs}
 use Rattle.run_laws.specs.Runs.{Entry, run, state-after, settings, made, tick-count, bus-record, open-takings, answers, others, wait-limit, answer-ticks, accepts, lasts}
@@ -59,6 +60,15 @@ Departure-law = (m : Meaning (List ℕ)) → Lawful m → (b : List ℕ) (cs : L
     → i < length (pattern-at (made (settings (run m b cs))) ℓ .spots)
     → Departs (made (settings (run m b cs)) .first) (made (settings (run m b cs)) .first + tick-count (run m b cs)) (m .span b)
     (pattern-at (made (settings (run m b cs))) ℓ) (takes-of (bus-record (run m b cs)) ℓ) (dones-of (bus-record (run m b cs)) ℓ) i r
+
+-- A line of a vertex's slot carries its domain, bank and kind.
+abbrev pub Own-line : Vertex → Line → Type 0
+Own-line v l = l .slot ≡ v .slot → (l .domain ≡ domain-of (v .slot)) × (l .bank ≡ v .bank) × (l .kind ≡ v .kind)
+
+-- The line law. In every run all lines of a vertex's slot, T, I and D, carry the vertex's domain, bank and kind.
+abbrev pub Line-law : Type 0
+Line-law = (m : Meaning (List ℕ)) (b : List ℕ) (cs : List Call)
+    → All (λ v. All (Own-line v) (bus-record (run m b cs))) (vertices (made (settings (run m b cs))))
 
 -- ---- what the laws rest on
 

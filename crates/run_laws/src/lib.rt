@@ -1,5 +1,6 @@
 // The laws of all runs of the scheduler, each as the contract of a function. The functions do nothing.
-ghost use Rattle.run_laws.specs.Laws.{Record-law, Isolation-law, Service-law, Departure-law, Limits};
+ghost use Rattle.run_laws.specs.Cases.{Cases-hold};
+ghost use Rattle.run_laws.specs.Laws.{Record-law, Isolation-law, Service-law, Departure-law, Line-law, Limits};
 
 // The bus record shows the open takings, and nothing more.
 pub fn record_law()
@@ -21,7 +22,17 @@ pub fn departure_law()
     ensures { λ _. ⌜ Departure-law ⌝ }
 {}
 
+// All lines of a vertex's slot carry the vertex's domain, bank and kind.
+pub fn line_law()
+    ensures { λ _. ⌜ Line-law ⌝ }
+{}
+
 // The controller refuses nothing, a tick writes at most 96 lines and 32 notices, and no number passes 10^18.
 pub fn limits()
     ensures { λ _. ⌜ Limits ⌝ }
+{}
+
+// The worked cases of refusals, due ticks and rounds have the values that are listed.
+pub fn worked_cases()
+    ensures { λ _. ⌜ Cases-hold ⌝ }
 {}
