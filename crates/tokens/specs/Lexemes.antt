@@ -56,8 +56,11 @@ pub record Cursor : Type 0 where
 abbrev pub cursor : Lexer → Cursor
 cursor l = record { text = l .text .now; at = l .at }
 
+abbrev pub started : List ℕ → ℕ → Cursor
+started text at = record { text = text; at = at }
+
 abbrev pub at-start : List ℕ → Cursor
-at-start text = record { text = text; at = 0 }
+at-start text = started text 0
 
 -- where the next token begins: spaces are passed over
 abbrev pub start-of : List ℕ → ℕ → ℕ

@@ -2,7 +2,7 @@
 ghost use mathlib.Core.Path.{_≡_};
 ghost use Prim.Native.Nat.{_-_, _≤_};
 ghost use lib.ListN.{length, take, drop};
-ghost use Rattle.tokens.specs.Lexemes.{seen, cursor, at-start, next-lexeme, moved, fault-number, fault-place};
+ghost use Rattle.tokens.specs.Lexemes.{seen, cursor, started, at-start, next-lexeme, moved, fault-number, fault-place};
 use crate::numbers::number;
 use crate::runs::Class;
 use crate::runs::run_end;
@@ -79,6 +79,13 @@ impl<'a> Lexer<'a> {
         ensures { λ r. ⌜ cursor r ≡ at-start (now (text .entry)) ⌝ }
     {
         Lexer { text, at: 0 }
+    }
+
+    // Begins at a place of the text.
+    pub fn starting_at(text: &'a [u8], at: usize) -> Lexer<'a>
+        ensures { λ r. ⌜ cursor r ≡ started (now (text .entry)) at ⌝ }
+    {
+        Lexer { text, at }
     }
 
     // The next token of the text, none at its end. A fault stays where it is.

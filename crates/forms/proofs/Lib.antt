@@ -1,0 +1,5 @@
+pub mod Progress
+pub mod Scanning
+pub mod Filling
+pub mod Endings
+pub mod Spelling
