@@ -1,0 +1,5 @@
+pub mod Roles
+pub mod Totals
+pub mod Limits
+pub mod Moves
+pub mod Oldest

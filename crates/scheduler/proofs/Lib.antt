@@ -1,0 +1,5 @@
+pub mod Begins
+pub mod Outcomes
+pub mod Serving
+pub mod Submitted
+pub mod Rounds

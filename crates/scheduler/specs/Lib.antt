@@ -1,0 +1,4 @@
+pub mod Fresh
+pub mod Views
+pub mod Schedulers
+pub mod Submits
