@@ -8,8 +8,8 @@ use interface::{Controller, Event};
 
 // Offers an arrival to the controller, if its step has come.
 fn offer<C: Controller>(controller: &mut C, arrival: Arrival, step: u64) -> bool
-    ensures answer { result ≡ admits meaning step arrival (state controller.old) }
-    ensures after { state controller.new ≡ offered meaning step arrival (state controller.old) }
+    ensures answer { result ≡ admits C.meaning step arrival (C.state controller.old) }
+    ensures after { C.state controller.new ≡ offered C.meaning step arrival (C.state controller.old) }
 {
     if arrival.step > step {
         return false;
@@ -28,8 +28,8 @@ pub fn admit<C: Controller>(
     next: usize,
     step: u64,
 ) -> usize
-    ensures answer { result ≡ next + taken_count meaning step (drop next arrivals.now) (state controller.old) }
-    ensures after { state controller.new ≡ taken_state meaning step (drop next arrivals.now) (state controller.old) }
+    ensures answer { result ≡ next + taken_count C.meaning step (drop next arrivals.now) (C.state controller.old) }
+    ensures after { C.state controller.new ≡ taken_state C.meaning step (drop next arrivals.now) (C.state controller.old) }
 {
     let mut at = next;
     while at < arrivals.len() && offer(controller, arrivals[at], step) {
@@ -40,10 +40,10 @@ pub fn admit<C: Controller>(
 
 // Empties a controller. Of its events, in order, as many go to the front of `out` as fit.
 pub fn drain<C: Controller>(controller: &mut C, out: &mut [Event]) -> usize
-    ensures count { result ≡ min (length (meaning.ready (state controller.old))) (length out.old) }
-    ensures events { out.new ≡ filled (meaning.ready (state controller.old)) out.old }
-    ensures after { state controller.new ≡ emptied meaning (meaning.ready (state controller.old)) (state controller.old) }
-    ensures none { meaning.ready (state controller.new) ≡ [] }
+    ensures count { result ≡ min (length (C.meaning.ready (C.state controller.old))) (length out.old) }
+    ensures events { out.new ≡ filled (C.meaning.ready (C.state controller.old)) out.old }
+    ensures after { C.state controller.new ≡ emptied C.meaning (C.meaning.ready (C.state controller.old)) (C.state controller.old) }
+    ensures none { C.meaning.ready (C.state controller.new) ≡ [] }
 {
     let mut n = 0;
     while let Some(event) = controller.collect() {

@@ -1,4 +1,6 @@
 // The worked cases of the controllers, step by step.
+#![tactic(auto)]
+
 #[cfg(test)]
 mod tests {
     use arrivals::drain;

@@ -1,5 +1,7 @@
 // A short day of a card that four groups share, from the setting to the last tick. Prints the answer of every submit, and
 // the lines and notices of every tick.
+#![tactic(auto)]
+
 mod plan;
 mod printing;
 

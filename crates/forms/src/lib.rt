@@ -1,4 +1,6 @@
 // The forms of a text, one a line, or the fault of a line.
+#![tactic(auto)]
+
 mod faults;
 mod grammar;
 mod lanes;

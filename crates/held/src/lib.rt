@@ -1,4 +1,6 @@
 // The table of held requests that first-come and turns share: requests wait, are issued, and are done when their delay has run out.
+#![tactic(auto)]
+
 mod entries;
 mod tables;
 

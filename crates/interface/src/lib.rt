@@ -1,4 +1,6 @@
 // What every controller of the card has in common: requests, events, refusals, and the interface.
+#![tactic(auto)]
+
 ghost use Rattle.std.specs.Prelude.{◌≡◌, ℕ, ◌^◌, ◌<◌, List, Option as Optional};
 ghost use Rattle.interface.specs.Meaning.{Meaning, Held, Call, after, number, refused, first, left_of, in_range, take_refusal, step_refusal};
 ghost use Rattle.interface.specs.Lawful.{Lawful};

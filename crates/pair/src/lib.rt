@@ -1,4 +1,6 @@
 // A controller of two others, each with half of the banks.
+#![tactic(auto)]
+
 mod pair;
 
 pub use pair::Pair;

@@ -1,4 +1,6 @@
 // Patterns: lanes of vertices and edges that repeat round after round.
+#![tactic(auto)]
+
 mod domain;
 pub mod edge;
 pub mod lane;

@@ -1,5 +1,7 @@
 // Reads requests from standard input, one to a line, and prints every Issue and Done of a controller with its step.
 // The first argument names the controller: come (also without an argument), turns, pair, or level with a number.
+#![tactic(auto)]
+
 use anyhow::anyhow;
 use arrivals::{Arrival, Complaint, admit, drain, read_arrival};
 use first_come::FirstCome;

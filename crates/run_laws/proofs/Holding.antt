@@ -3,7 +3,7 @@ use Rattle.std.proofs.Common.{◌≡◌, ℕ, suc, ◌+◌, ◌-◌, ◌<◌, �
 use Rattle.std.proofs.lemmas.List.{length-append}
 use Rattle.std.proofs.lemmas.Bool.{eqb-true, eqb-false, eq-eqb, ne_eqb, true≢false, or_parts, or_right, cases_eq}
 use Rattle.std.specs.List.{AllByRecursion as All}
-use Rattle.interface.proofs.Bools.{or_right as or-none, eqb_comm, or_assoc, and_left}
+use Rattle.interface.proofs.Bools.{or_right as or_none, eqb_comm, or_assoc, and_left}
 use Rattle.interface.proofs.Takes.{take_fine, range_fine}
 use Rattle.interface.specs.Emptied.{emptied}
 use Rattle.interface.specs.Lawful.{Lawful, fresh, ends, aged, without, ended, Standing, standing, events_of, Proper, Punctual}
@@ -323,7 +323,7 @@ module _ (r : Controller) (laws : Lawful r.meaning) where
   taken s q h free e = record {
     again = by_call (Call.take q) s h;
     quiet = ap r.meaning.ready (take_is s q e) ∙ laws.taken_ready s q h.by_calls e;
-    keeps = λ t. ap (holds t) held_is ∙ holds_append t (r.meaning.held s) _ ∙ ap (λ z. holds t (r.meaning.held s) || z) (or-none (eqb q.slot t));
+    keeps = λ t. ap (holds t) held_is ∙ holds_append t (r.meaning.held s) _ ∙ ap (λ z. holds t (r.meaning.held s) || z) (or_none (eqb q.slot t));
     spanned = ap (λ hs. steps_left hs q.slot) held_is ∙ left_new q.slot (r.meaning.held s) _ free ∙ ap (λ x. cond x (r.meaning.span s) 0) (eq-eqb q.slot q.slot refl) ∙ same_span s h;
     lefts = λ t k. ap (λ hs. steps_left hs t) held_is ∙ left_append t (r.meaning.held s) _ k;
     longer = ap length held_is ∙ simp length-append (omega arith);
@@ -342,7 +342,7 @@ module _ (r : Controller) (laws : Lawful r.meaning) where
 
   pub all_held : (vs : List Vertex) (s : List ℕ) → Reached r s → All (Free s) vs → Apart vs → length (r.meaning.held s) + length vs ≤ places r → AllHeld vs s (taken_all r.meaning vs s)
   unfolding taken_all
-  all_held [] s h f a room = record { takes = tt; again = h; quiet = refl; keeps = λ t. sym (or-none (holds t (r.meaning.held s))); spanned = λ t e. absurd (true≢false (sym e)); lefts = λ t e. refl }
+  all_held [] s h f a room = record { takes = tt; again = h; quiet = refl; keeps = λ t. sym (or_none (holds t (r.meaning.held s))); spanned = λ t e. absurd (true≢false (sym e)); lefts = λ t e. refl }
   all_held (v ∷ vs) s h f a room = go (all_held vs next one.again (freed vs f.1 a.0) a.1 (let k = one.longer in omega arith))
     where
       next : List ℕ

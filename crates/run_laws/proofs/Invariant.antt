@@ -3,7 +3,7 @@ use Rattle.std.proofs.Common.{◌≡◌, ℕ, suc, ◌+◌, ◌*◌, ◌%◌, �
 use Rattle.std.proofs.ByRecursion.{All-weaker}
 use Rattle.std.proofs.lemmas.Bool.{true≢false, and_parts}
 use Rattle.std.specs.List.{AllByRecursion as All}
-use Rattle.interface.proofs.Bools.{or_true, or_right as or-none}
+use Rattle.interface.proofs.Bools.{or_true, or_right as or_none}
 use Rattle.interface.specs.Emptied.{emptied}
 use Rattle.interface.specs.Lawful.{Lawful}
 use Rattle.interface.specs.Meaning.{Call, after}
@@ -277,7 +277,7 @@ module _ (r : Controller) (laws : Lawful r.meaning) (c : Settings) (sound : Soun
         where
           go : (y : Bool) → in_slots t (departing r c x) ≡ y → (is_flying ((tables_2 r c x).stage t) || y) ≡ is_flying ((through departed (departing r c x) (tables_2 r c x)).stage t)
           go true e = or_true (is_flying ((tables_2 r c x).stage t)) true refl ∙ sym (departed_in t (departing r c x) (tables_2 r c x) (inl e))
-          go false e = or-none (is_flying ((tables_2 r c x).stage t)) ∙ ap is_flying (sym (departed_out t (departing r c x) (tables_2 r c x) e))
+          go false e = or_none (is_flying ((tables_2 r c x).stage t)) ∙ ap is_flying (sym (departed_out t (departing r c x) (tables_2 r c x) e))
 
       -- a vertex has left if it was to leave
       pub departing_at : (ℓ i : ℕ) → ℓ < 64 → i < size c ℓ → in_slots (slot_at ℓ i) (departing r c x) ≡ (is_still ((tables_2 r c x).stage (slot_at ℓ i)) && is_due x.tick (due_from ((tables_2 r c x).start ℓ) (tables_2 r c x).stage (sources_into (ℓ * 8) i (pattern_at c ℓ).edges)))

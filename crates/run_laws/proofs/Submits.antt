@@ -2,7 +2,7 @@
 use Rattle.std.proofs.Common.{◌≡◌, ℕ, zero, suc, ◌+◌, ◌*◌, ◌%◌, ◌<◌, ◌≤◌, Bool, true, false, cond, not, ◌||◌, eqb, ltb, leb, ◌⊎◌, List, [], ◌∷◌, length, get_or, None, sym, refl, ap, ◌∙◌, subst, inl, inr, arith}
 use Rattle.std.proofs.lemmas.Bool.{eqb-true, eqb-false, eq-eqb, ne_eqb, true≢false, ltb-false, not-false, or_left, or_right, cases_eq}
 use Rattle.std.specs.List.{AllByRecursion as All}
-use Rattle.interface.proofs.Bools.{or_right as or-none}
+use Rattle.interface.proofs.Bools.{or_right as or_none}
 use Rattle.interface.specs.Lawful.{Lawful}
 use Rattle.interface.specs.Meaning.{Call, after, take_refusal}
 use Rattle.interface.specs.declared.Kind.{Kind}
@@ -98,7 +98,7 @@ module _ (r : Controller) (laws : Lawful r.meaning) (c : Settings) (sound : Soun
       where
         held : (t : ℕ) (y : Bool) → eqb t (slot_in_turn e share (x.serial e)) ≡ y → (is_flying (x.tables.stage t) || eqb (slot_in_turn e share (x.serial e)) t) ≡ is_flying (cond y (flying b k (Real row (x.serial e))) (x.tables.stage t))
         held t true z = or_right (is_flying (x.tables.stage t)) _ (eq-eqb (slot_in_turn e share (x.serial e)) t (sym (eqb-true t _ z)))
-        held t false z = rw (ne_eqb (slot_in_turn e share (x.serial e)) t (λ w. eqb-false t _ z (sym w))) (or-none (is_flying (x.tables.stage t)))
+        held t false z = rw (ne_eqb (slot_in_turn e share (x.serial e)) t (λ w. eqb-false t _ z (sym w))) (or_none (is_flying (x.tables.stage t)))
 
         same_done : (t : ℕ) (y : Bool) → eqb t (slot_in_turn e share (x.serial e)) ≡ y → done_tick (cond y (flying b k (Real row (x.serial e))) (x.tables.stage t)) ≡ done_tick (x.tables.stage t)
         same_done t true z = sym (ap (λ q. done_tick (x.tables.stage q)) (eqb-true t _ z) ∙ (still_not _ free).1)

@@ -1,4 +1,6 @@
 // What is promised of all runs of the scheduler.
+#![tactic(auto)]
+
 ghost use Rattle.std.specs.Prelude.{ℕ, List};
 ghost use Rattle.interface.specs.Lawful.{Lawful};
 ghost use Rattle.interface.specs.Meaning.{Meaning};

@@ -1,4 +1,6 @@
 // The tally of a run: how many T, I and D lines there were, and the report of it.
+#![tactic(auto)]
+
 ghost use Rattle.std.specs.Prelude.{◌≡◌, IfOk, string_bytes};
 ghost use Rattle.tally.specs.Counts.{counted, sum_of, number, refused, feed_refusal, fed, none, closed, report_text, CountsLines};
 

@@ -5,8 +5,8 @@ ghost use Rattle.model.specs.Refusals.{number, refused};
 ghost use Rattle.board.specs.Sets.{no_share, is_unset_at, takes_no_lane, open_checks, first_checks};
 ghost use Rattle.board.specs.Boards.{board_view, settings_of, set_with};
 ghost use Rattle.model.specs.Calls.{setting_refusal, opens, lane};
-ghost use Rattle.model.specs.Calls.{first as first-setting};
-ghost use Rattle.patterns.specs.Shape.{number as lane-number};
+ghost use Rattle.model.specs.Calls.{first as first_setting};
+ghost use Rattle.patterns.specs.Shape.{number as lane_number};
 
 use crate::board::Board;
 use crate::share::Share;
@@ -92,8 +92,8 @@ impl Board {
 
     // Sets the first tick's number, unless it is refused.
     pub fn set_first(&mut self, number: u64) -> Result<(), Refusal>
-        ensures answer { (places : ℕ) → refused result ≡ setting_refusal places (settings_of (board_view self.old)) (first-setting number) }
-        ensures after { (places : ℕ) → board_view self.new ≡ set_with places (first-setting number) (board_view self.old) }
+        ensures answer { (places : ℕ) → refused result ≡ setting_refusal places (settings_of (board_view self.old)) (first_setting number) }
+        ensures after { (places : ℕ) → board_view self.new ≡ set_with places (first_setting number) (board_view self.old) }
     {
         if let Some(refusal) = first_refusal(number) {
             return Err(refusal);
@@ -140,7 +140,7 @@ fn first_refusal(tick: u64) -> Option<Refusal>
 
 // The scheduler's refusal of a lane that is refused.
 fn lane_refusal(refusal: LaneRefusal) -> Refusal
-    ensures { number result ≡ lane-number refusal }
+    ensures { number result ≡ lane_number refusal }
 {
     match refusal {
         LaneRefusal::Domain => Refusal::DomainTaken,

@@ -80,8 +80,8 @@ impl Table {
 
     // Takes all events from below.
     pub fn gather<C: Controller>(&mut self, forward: Forward, below: &mut C)
-        ensures below { state below.new ≡ emptied meaning (meaning.ready (state below.old)) (state below.old) }
-        ensures after { contents self.new ≡ gathered forward (meaning.ready (state below.old)) (contents self.old) }
+        ensures below { C.state below.new ≡ emptied C.meaning (C.meaning.ready (C.state below.old)) (C.state below.old) }
+        ensures after { contents self.new ≡ gathered forward (C.meaning.ready (C.state below.old)) (contents self.old) }
     {
         while let Some(event) = below.collect() {
             self.receive(forward, event);

@@ -2,7 +2,7 @@
 ghost use Rattle.std.specs.Prelude.{◌≡◌, ℕ, List, length};
 ghost use Rattle.model.specs.Calls.{outcome};
 ghost use Rattle.model.specs.Calls.{Call as ModelCall};
-ghost use Rattle.model.specs.Calls.{new as new-state};
+ghost use Rattle.model.specs.Calls.{new as new_state};
 ghost use Rattle.run_laws.specs.Laws.{Promises};
 ghost use Rattle.run_laws.specs.Runs.{notices_in, state_after};
 ghost use Rattle.store.specs.Pages.{filled};
@@ -25,12 +25,12 @@ impl<C: Controller> Scheduler<C> {
         lines: &mut [Line],
         notices: &mut [Notice],
     ) -> Result<Answer, Refusal>
-        ensures answer { told result ≡ told_of (length lines.old) (length notices.old) (outcome meaning (view state self.old) (made_call (length lines.old) (length notices.old) call.entry)).reply }
-        ensures after { view state self.new ≡ (outcome meaning (view state self.old) (made_call (length lines.old) (length notices.old) call.entry)).after }
-        ensures lines { lines.new ≡ filled (lines_in (outcome meaning (view state self.old) (made_call (length lines.old) (length notices.old) call.entry)).reply) lines.old }
-        ensures notices { notices.new ≡ filled (notices_in (outcome meaning (view state self.old) (made_call (length lines.old) (length notices.old) call.entry)).reply) notices.old }
-        ensures history { (b : List ℕ) (cs : List ModelCall) → view state self.old ≡ state_after meaning (new-state meaning b) cs → Extends meaning b cs (made_call (length lines.old) (length notices.old) call.entry) (view state self.new) (seen result lines.new notices.new) }
-        ensures promises { Promises meaning }
+        ensures answer { told result ≡ told_of (length lines.old) (length notices.old) (outcome C.meaning (view C.state self.old) (made_call (length lines.old) (length notices.old) call.entry)).reply }
+        ensures after { view C.state self.new ≡ (outcome C.meaning (view C.state self.old) (made_call (length lines.old) (length notices.old) call.entry)).after }
+        ensures lines { lines.new ≡ filled (lines_in (outcome C.meaning (view C.state self.old) (made_call (length lines.old) (length notices.old) call.entry)).reply) lines.old }
+        ensures notices { notices.new ≡ filled (notices_in (outcome C.meaning (view C.state self.old) (made_call (length lines.old) (length notices.old) call.entry)).reply) notices.old }
+        ensures history { (b : List ℕ) (cs : List ModelCall) → view C.state self.old ≡ state_after C.meaning (new_state C.meaning b) cs → Extends C.meaning b cs (made_call (length lines.old) (length notices.old) call.entry) (view C.state self.new) (seen result lines.new notices.new) }
+        ensures promises { Promises C.meaning }
     {
         self.perform(call, lines, notices)
     }
@@ -41,10 +41,10 @@ impl<C: Controller> Scheduler<C> {
         lines: &mut [Line],
         notices: &mut [Notice],
     ) -> Result<Answer, Refusal>
-        ensures answer { told result ≡ told_of (length lines.old) (length notices.old) (outcome meaning (view state self.old) (made_call (length lines.old) (length notices.old) call.entry)).reply }
-        ensures after { view state self.new ≡ (outcome meaning (view state self.old) (made_call (length lines.old) (length notices.old) call.entry)).after }
-        ensures lines { lines.new ≡ filled (lines_in (outcome meaning (view state self.old) (made_call (length lines.old) (length notices.old) call.entry)).reply) lines.old }
-        ensures notices { notices.new ≡ filled (notices_in (outcome meaning (view state self.old) (made_call (length lines.old) (length notices.old) call.entry)).reply) notices.old }
+        ensures answer { told result ≡ told_of (length lines.old) (length notices.old) (outcome C.meaning (view C.state self.old) (made_call (length lines.old) (length notices.old) call.entry)).reply }
+        ensures after { view C.state self.new ≡ (outcome C.meaning (view C.state self.old) (made_call (length lines.old) (length notices.old) call.entry)).after }
+        ensures lines { lines.new ≡ filled (lines_in (outcome C.meaning (view C.state self.old) (made_call (length lines.old) (length notices.old) call.entry)).reply) lines.old }
+        ensures notices { notices.new ≡ filled (notices_in (outcome C.meaning (view C.state self.old) (made_call (length lines.old) (length notices.old) call.entry)).reply) notices.old }
     {
         match call {
             Call::Open(domain, share) => accepted(self.open(domain, share)),

@@ -14,7 +14,7 @@ use interface::{Controller, Request};
 // The controller takes an open request, which holds its slot.
 pub(crate) fn send<C: Controller>(controller: &mut C, board: &mut Board, request: Request)
     ensures board { board_view board.new ≡ with_slot request.slot (Held request.bank request.kind) (board_view board.old) }
-    ensures controller { state controller.new ≡ after meaning (Call.take request) (state controller.old) }
+    ensures controller { C.state controller.new ≡ after C.meaning (Call.take request) (C.state controller.old) }
 {
     board.hold(request.slot as usize, request.bank, request.kind);
     let _ = controller.take(request);
@@ -23,7 +23,7 @@ pub(crate) fn send<C: Controller>(controller: &mut C, board: &mut Board, request
 // The controller takes the request of a vertex, which flies.
 fn depart<C: Controller>(controller: &mut C, board: &mut Board, leaving: Request)
     ensures board { board_view board.new ≡ advanced_board Due leaving.slot (board_view board.old) }
-    ensures controller { state controller.new ≡ after meaning (Call.take leaving) (state controller.old) }
+    ensures controller { C.state controller.new ≡ after C.meaning (Call.take leaving) (C.state controller.old) }
 {
     board.depart(leaving.slot);
     let _ = controller.take(leaving);
@@ -41,7 +41,7 @@ pub(crate) fn prepare(board: &mut Board, departures: &mut Departures, tick: u64)
 // The controller takes the requests of all vertices that leave, in order.
 pub(crate) fn depart_all<C: Controller>(controller: &mut C, board: &mut Board, requests: &[Request])
     ensures board { board_view board.new ≡ departed_board requests.now (board_view board.old) }
-    ensures controller { state controller.new ≡ taken_by meaning requests.now (state controller.old) }
+    ensures controller { C.state controller.new ≡ taken_by C.meaning requests.now (C.state controller.old) }
 {
     for request in requests {
         depart(controller, board, *request);

@@ -23,10 +23,10 @@ pub(crate) fn step<C: Controller>(
     lines: &mut [Line],
     notices: &mut [Notice],
 ) -> (usize, usize)
-    ensures controller { state controller.new ≡ emptied meaning (meaning.ready (after meaning Call.step (state controller.old))) (after meaning Call.step (state controller.old)) }
-    ensures board { board_view board.new ≡ all_heard tick (meaning.ready (after meaning Call.step (state controller.old))) (board_view board.old) }
-    ensures lines { page lines.new result.0 ≡ wrote_all (heard_lines tick (meaning.ready (after meaning Call.step (state controller.old))) (board_view board.old) (store_view store.now)) (page lines.old 0) }
-    ensures notices { page notices.new result.1 ≡ wrote_all (heard_notices tick (meaning.ready (after meaning Call.step (state controller.old))) (board_view board.old) (store_view store.now)) (page notices.old 0) }
+    ensures controller { C.state controller.new ≡ emptied C.meaning (C.meaning.ready (after C.meaning Call.step (C.state controller.old))) (after C.meaning Call.step (C.state controller.old)) }
+    ensures board { board_view board.new ≡ all_heard tick (C.meaning.ready (after C.meaning Call.step (C.state controller.old))) (board_view board.old) }
+    ensures lines { page lines.new result.0 ≡ wrote_all (heard_lines tick (C.meaning.ready (after C.meaning Call.step (C.state controller.old))) (board_view board.old) (store_view store.now)) (page lines.old 0) }
+    ensures notices { page notices.new result.1 ≡ wrote_all (heard_notices tick (C.meaning.ready (after C.meaning Call.step (C.state controller.old))) (board_view board.old) (store_view store.now)) (page notices.old 0) }
 {
     let _ = controller.step();
     hear_all(controller, board, store, tick, lines, notices)
@@ -41,10 +41,10 @@ fn hear_all<C: Controller>(
     lines: &mut [Line],
     notices: &mut [Notice],
 ) -> (usize, usize)
-    ensures controller { state controller.new ≡ emptied meaning (meaning.ready (state controller.old)) (state controller.old) }
-    ensures board { board_view board.new ≡ all_heard tick (meaning.ready (state controller.old)) (board_view board.old) }
-    ensures lines { page lines.new result.0 ≡ wrote_all (heard_lines tick (meaning.ready (state controller.old)) (board_view board.old) (store_view store.now)) (page lines.old 0) }
-    ensures notices { page notices.new result.1 ≡ wrote_all (heard_notices tick (meaning.ready (state controller.old)) (board_view board.old) (store_view store.now)) (page notices.old 0) }
+    ensures controller { C.state controller.new ≡ emptied C.meaning (C.meaning.ready (C.state controller.old)) (C.state controller.old) }
+    ensures board { board_view board.new ≡ all_heard tick (C.meaning.ready (C.state controller.old)) (board_view board.old) }
+    ensures lines { page lines.new result.0 ≡ wrote_all (heard_lines tick (C.meaning.ready (C.state controller.old)) (board_view board.old) (store_view store.now)) (page lines.old 0) }
+    ensures notices { page notices.new result.1 ≡ wrote_all (heard_notices tick (C.meaning.ready (C.state controller.old)) (board_view board.old) (store_view store.now)) (page notices.old 0) }
 {
     let mut written = 0;
     let mut told = 0;

@@ -1,8 +1,8 @@
 // A new scheduler, the setting calls, and begin.
 ghost use Rattle.std.specs.Prelude.{◌≡◌, IfOk};
 ghost use Rattle.model.specs.Calls.{outcome, sets, begins, opens, lane, setting_refusal};
-ghost use Rattle.model.specs.Calls.{first as first-setting};
-ghost use Rattle.model.specs.Calls.{new as new-state};
+ghost use Rattle.model.specs.Calls.{first as first_setting};
+ghost use Rattle.model.specs.Calls.{new as new_state};
 ghost use Rattle.model.specs.Refusals.{refused};
 ghost use Rattle.board.specs.Boards.{board_view, settings_of, set_with, started_board};
 ghost use Rattle.scheduler.specs.Schedulers.{view, replied};
@@ -21,7 +21,7 @@ impl<C: Controller> Scheduler<C> {
     pub fn new(heap: Global, controller: C) -> Result<Scheduler<C>, AllocError>
     where
         C: Drop,
-        ensures { IfOk result (λ s. view state s ≡ new-state meaning (state controller)) }
+        ensures { IfOk result (λ s. view C.state s ≡ new_state C.meaning (C.state controller)) }
     {
         let board = Board::new(heap)?;
         let store = Store::new(heap)?;
@@ -38,8 +38,8 @@ impl<C: Controller> Scheduler<C> {
 
     // Opens a domain with a share.
     pub fn open(&mut self, domain: u64, share: u64) -> Result<(), Refusal>
-        ensures answer { replied result ≡ (outcome meaning (view state self.old) (sets (opens domain share))).reply }
-        ensures after { view state self.new ≡ (outcome meaning (view state self.old) (sets (opens domain share))).after }
+        ensures answer { replied result ≡ (outcome C.meaning (view C.state self.old) (sets (opens domain share))).reply }
+        ensures after { view C.state self.new ≡ (outcome C.meaning (view C.state self.old) (sets (opens domain share))).after }
     {
         if self.begun {
             return Err(Refusal::WrongPhase);
@@ -55,8 +55,8 @@ impl<C: Controller> Scheduler<C> {
         edges: &[EdgeSetting],
         rest: u64,
     ) -> Result<(), Refusal>
-        ensures answer { replied result ≡ (outcome meaning (view state self.old) (sets (lane domain vertices.now edges.now rest))).reply }
-        ensures after { view state self.new ≡ (outcome meaning (view state self.old) (sets (lane domain vertices.now edges.now rest))).after }
+        ensures answer { replied result ≡ (outcome C.meaning (view C.state self.old) (sets (lane domain vertices.now edges.now rest))).reply }
+        ensures after { view C.state self.new ≡ (outcome C.meaning (view C.state self.old) (sets (lane domain vertices.now edges.now rest))).after }
     {
         if self.begun {
             return Err(Refusal::WrongPhase);
@@ -73,8 +73,8 @@ impl<C: Controller> Scheduler<C> {
 
     // Sets the first tick's number, which is 0 otherwise.
     pub fn first(&mut self, number: u64) -> Result<(), Refusal>
-        ensures answer { replied result ≡ (outcome meaning (view state self.old) (sets (first-setting number))).reply }
-        ensures after { view state self.new ≡ (outcome meaning (view state self.old) (sets (first-setting number))).after }
+        ensures answer { replied result ≡ (outcome C.meaning (view C.state self.old) (sets (first_setting number))).reply }
+        ensures after { view C.state self.new ≡ (outcome C.meaning (view C.state self.old) (sets (first_setting number))).after }
     {
         if self.begun {
             return Err(Refusal::WrongPhase);
@@ -84,8 +84,8 @@ impl<C: Controller> Scheduler<C> {
 
     // Ends the setting.
     pub fn begin(&mut self) -> Result<(), Refusal>
-        ensures answer { replied result ≡ (outcome meaning (view state self.old) begins).reply }
-        ensures after { view state self.new ≡ (outcome meaning (view state self.old) begins).after }
+        ensures answer { replied result ≡ (outcome C.meaning (view C.state self.old) begins).reply }
+        ensures after { view C.state self.new ≡ (outcome C.meaning (view C.state self.old) begins).after }
     {
         if self.begun {
             return Err(Refusal::WrongPhase);
@@ -98,7 +98,7 @@ impl<C: Controller> Scheduler<C> {
 
 // The controller in its beginning state.
 fn restarted<C: Controller>(controller: C) -> C
-    ensures { state result ≡ meaning.start (state controller) }
+    ensures { C.state result ≡ C.meaning.start (C.state controller) }
 {
     let mut controller = controller;
     controller.reset();
@@ -112,8 +112,8 @@ fn open_domain<C: Controller>(
     domain: u64,
     share: u64,
 ) -> Result<(), Refusal>
-    ensures answer { refused result ≡ setting_refusal (meaning.places (state controller.now)) (settings_of (board_view board.old)) (opens domain share) }
-    ensures after { board_view board.new ≡ set_with (meaning.places (state controller.now)) (opens domain share) (board_view board.old) }
+    ensures answer { refused result ≡ setting_refusal (C.meaning.places (C.state controller.now)) (settings_of (board_view board.old)) (opens domain share) }
+    ensures after { board_view board.new ≡ set_with (C.meaning.places (C.state controller.now)) (opens domain share) (board_view board.old) }
 {
     board.open(domain, share, controller.places())
 }
@@ -127,8 +127,8 @@ fn add_lane<C: Controller>(
     edges: &[EdgeSetting],
     rest: u64,
 ) -> Result<(), Refusal>
-    ensures answer { refused result ≡ setting_refusal (meaning.places (state controller.now)) (settings_of (board_view board.old)) (lane domain vertices.now edges.now rest) }
-    ensures after { board_view board.new ≡ set_with (meaning.places (state controller.now)) (lane domain vertices.now edges.now rest) (board_view board.old) }
+    ensures answer { refused result ≡ setting_refusal (C.meaning.places (C.state controller.now)) (settings_of (board_view board.old)) (lane domain vertices.now edges.now rest) }
+    ensures after { board_view board.new ≡ set_with (C.meaning.places (C.state controller.now)) (lane domain vertices.now edges.now rest) (board_view board.old) }
 {
     board.add_lane(domain, vertices, edges, rest, controller.places())
 }

@@ -3,7 +3,7 @@ ghost use Rattle.std.specs.Prelude.{◌≡◌};
 ghost use Rattle.std.specs.Option.{option_map};
 ghost use Rattle.model.specs.Refusals.{number};
 ghost use Rattle.model.specs.Calls.{outcome};
-ghost use Rattle.model.specs.Calls.{submit as submit-call};
+ghost use Rattle.model.specs.Calls.{submit as submit_call};
 ghost use Rattle.board.specs.Boards.{board_view};
 ghost use Rattle.store.specs.Stores.{store_view};
 ghost use Rattle.scheduler.specs.Schedulers.{view, serial_reply};
@@ -19,8 +19,8 @@ use store::store::Store;
 impl<C: Controller> Scheduler<C> {
     // A request of a domain: its serial.
     pub fn submit(&mut self, domain: u64, bank: u64, kind: Kind, row: u64) -> Result<u64, Refusal>
-        ensures answer { serial_reply result ≡ (outcome meaning (view state self.old) (submit-call domain bank kind row)).reply }
-        ensures after { view state self.new ≡ (outcome meaning (view state self.old) (submit-call domain bank kind row)).after }
+        ensures answer { serial_reply result ≡ (outcome C.meaning (view C.state self.old) (submit_call domain bank kind row)).reply }
+        ensures after { view C.state self.new ≡ (outcome C.meaning (view C.state self.old) (submit_call domain bank kind row)).after }
     {
         if !self.begun {
             return Err(Refusal::WrongPhase);

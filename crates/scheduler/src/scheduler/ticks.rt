@@ -1,10 +1,10 @@
 // Ticks.
 ghost use Rattle.std.specs.Prelude.{◌≡◌, true, length, IfOk};
 ghost use Rattle.model.specs.Refusals.{refused};
-ghost use Rattle.model.specs.Ticks.{lines as bus-lines};
-ghost use Rattle.model.specs.Ticks.{notices as bus-notices};
+ghost use Rattle.model.specs.Ticks.{lines as bus_lines};
+ghost use Rattle.model.specs.Ticks.{notices as bus_notices};
 ghost use Rattle.model.specs.Calls.{outcome, ticked};
-ghost use Rattle.model.specs.Calls.{ticks as tick-call};
+ghost use Rattle.model.specs.Calls.{ticks as tick_call};
 ghost use Rattle.run_laws.specs.Runs.{notices_in};
 ghost use Rattle.board.specs.Boards.{board_view, settings_of};
 ghost use Rattle.store.specs.Pages.{page, wrote_all, filled};
@@ -27,10 +27,10 @@ impl<C: Controller> Scheduler<C> {
         lines: &mut [Line],
         notices: &mut [Notice],
     ) -> Result<(usize, usize), Refusal>
-        ensures answer { tick_told result ≡ told_of (length lines.old) (length notices.old) (outcome meaning (view state self.old) (tick-call (length lines.old) (length notices.old))).reply }
-        ensures after { view state self.new ≡ (outcome meaning (view state self.old) (tick-call (length lines.old) (length notices.old))).after }
-        ensures lines { lines.new ≡ filled (lines_in (outcome meaning (view state self.old) (tick-call (length lines.old) (length notices.old))).reply) lines.old }
-        ensures notices { notices.new ≡ filled (notices_in (outcome meaning (view state self.old) (tick-call (length lines.old) (length notices.old))).reply) notices.old }
+        ensures answer { tick_told result ≡ told_of (length lines.old) (length notices.old) (outcome C.meaning (view C.state self.old) (tick_call (length lines.old) (length notices.old))).reply }
+        ensures after { view C.state self.new ≡ (outcome C.meaning (view C.state self.old) (tick_call (length lines.old) (length notices.old))).after }
+        ensures lines { lines.new ≡ filled (lines_in (outcome C.meaning (view C.state self.old) (tick_call (length lines.old) (length notices.old))).reply) lines.old }
+        ensures notices { notices.new ≡ filled (notices_in (outcome C.meaning (view C.state self.old) (tick_call (length lines.old) (length notices.old))).reply) notices.old }
     {
         match admitted(self.begun, self.tick, lines.len(), notices.len()) {
             Ok(tick) => Ok(self.pass(tick, lines, notices)),
@@ -43,9 +43,9 @@ impl<C: Controller> Scheduler<C> {
         requires { self.old.begun ≡ true }
         ensures begun { self.new.begun ≡ true }
         ensures settings { settings_of (board_view self.new.board) ≡ settings_of (board_view self.old.board) }
-        ensures running { running_of self.new.tick (state self.new.controller) (board_view self.new.board) (store_view self.new.store) ≡ ticked meaning (settings_of (board_view self.old.board)) (running_of tick.number (state self.old.controller) (board_view self.old.board) (store_view self.old.store)) }
-        ensures lines { page lines.new result.0 ≡ wrote_all (bus-lines meaning (settings_of (board_view self.old.board)) tick.number (state self.old.controller) (tables_of (board_view self.old.board) (store_view self.old.store))) (page lines.old 0) }
-        ensures notices { page notices.new result.1 ≡ wrote_all (bus-notices meaning (settings_of (board_view self.old.board)) tick.number (state self.old.controller) (tables_of (board_view self.old.board) (store_view self.old.store))) (page notices.old 0) }
+        ensures running { running_of self.new.tick (C.state self.new.controller) (board_view self.new.board) (store_view self.new.store) ≡ ticked C.meaning (settings_of (board_view self.old.board)) (running_of tick.number (C.state self.old.controller) (board_view self.old.board) (store_view self.old.store)) }
+        ensures lines { page lines.new result.0 ≡ wrote_all (bus_lines C.meaning (settings_of (board_view self.old.board)) tick.number (C.state self.old.controller) (tables_of (board_view self.old.board) (store_view self.old.store))) (page lines.old 0) }
+        ensures notices { page notices.new result.1 ≡ wrote_all (bus_notices C.meaning (settings_of (board_view self.old.board)) tick.number (C.state self.old.controller) (tables_of (board_view self.old.board) (store_view self.old.store))) (page notices.old 0) }
     {
         let (heard, told) = step(
             &mut self.controller,

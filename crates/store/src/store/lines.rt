@@ -1,7 +1,7 @@
 // The lines and notices of requests. Outside of this crate nobody sees what a slot carries but in a line or a notice.
 ghost use Rattle.std.specs.Prelude.{◌≡◌};
 ghost use Rattle.model.specs.Ticks.{row_of, payload_notice};
-ghost use Rattle.model.specs.declared.Letter.TheVariants.{T as taken-letter};
+ghost use Rattle.model.specs.declared.Letter.TheVariants.{T as taken_letter};
 ghost use Rattle.store.specs.Pages.{page, wrote, wrote_all};
 ghost use Rattle.store.specs.Stores.{store_view};
 ghost use Rattle.store.specs.Lines.{line_with, flight_line, flight_notice, load_for, loaded, all_loaded, load_lines};
@@ -71,7 +71,7 @@ impl Store {
 
     fn load_one(&mut self, tick: u64, request: Request, lines: &mut [Line], count: usize) -> usize
         ensures after { store_view self.new ≡ loaded request (store_view self.old) }
-        ensures lines { page lines.new result ≡ wrote (line_with taken-letter tick request (load_for request (store_view self.old))) (page lines.old count) }
+        ensures lines { page lines.new result ≡ wrote (line_with taken_letter tick request (load_for request (store_view self.old))) (page lines.old count) }
     {
         let payload = self.leave(request.domain as usize, request.bank, request.kind);
         self.carry(request.slot as usize, payload);

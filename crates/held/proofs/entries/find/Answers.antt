@@ -4,14 +4,14 @@ use Rattle.interface.specs.Slots.{place}
 use Rattle.interface.proofs.Slots.{place_here, place_next, place_drop_all}
 use Rattle.held.proofs.entries.find.Goals as goal
 
-pub returns-then-has-slot : goal.returns-then-has-slot
-returns-then-has-slot c =
-    let e = place_here (has c.args.slot) c.args.entries.now c.loop-i.i _ c.loop-i-test.true (sym c.has_slot.ensures ∙ c.if-has-slot.true) in
+pub returns-then-has_slot : goal.returns-then-has_slot
+returns-then-has_slot c =
+    let e = place_here (has c.args.slot) c.args.entries.now c.loop-i.i _ c.loop-i-test.true (sym c.has_slot.ensures ∙ c.if-has_slot.true) in
     omega (arith, e, c.loop-i.invariant)
 
 pub loop-i-preserved : goal.loop-i-preserved
 loop-i-preserved c =
-    let e = place_next (has c.args.slot) c.args.entries.now c.loop-i.i _ c.loop-i-test.true (sym c.has_slot.ensures ∙ c.if-has-slot.false) in
+    let e = place_next (has c.args.slot) c.args.entries.now c.loop-i.i _ c.loop-i-test.true (sym c.has_slot.ensures ∙ c.if-has_slot.false) in
     omega (arith, e, c.loop-i.invariant)
 
 pub returns : goal.returns

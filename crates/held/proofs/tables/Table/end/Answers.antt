@@ -11,7 +11,7 @@ pub returns-then-i-len : goal.returns-then-i-len
 returns-then-i-len c =
     let x = rows c.args.self.now in
     let n = c.args.slot in
-    let at : c.find-i.result ≡ place (has n) x.entries = c.find-i.ensures ∙ ap (place (has n)) c.as-slice.ensures.value in
+    let at : c.find-i.result ≡ place (has n) x.entries = c.find-i.ensures ∙ ap (place (has n)) c.as_slice.ensures.value in
     let there : place (has n) x.entries < length x.entries = omega (arith, at, c.args.self.now.entries.ok.0) in
     ap (with_entries x) (c.remove-ended.ensures.items ∙ ap (remove x.entries) at ∙ dropped_there key n x.entries there)
 
@@ -19,6 +19,6 @@ pub returns-else-i-len : goal.returns-else-i-len
 returns-else-i-len c =
     let x = rows c.args.self.now in
     let n = c.args.slot in
-    let at : c.find-i.result ≡ place (has n) x.entries = c.find-i.ensures ∙ ap (place (has n)) c.as-slice.ensures.value in
+    let at : c.find-i.result ≡ place (has n) x.entries = c.find-i.ensures ∙ ap (place (has n)) c.as_slice.ensures.value in
     let not : length x.entries ≤ place (has n) x.entries = omega (arith, at, c.args.self.now.entries.ok.0) in
     ap (with_entries x) (sym (dropped_not key n x.entries not))

@@ -9,6 +9,6 @@ pub returns : goal.returns
 returns c =
     let es = (rows c.args.self.now).entries in
     let n = c.args.slot in
-    let at : c.find.result ≡ place (has n) es = c.find.ensures ∙ ap (place (has n)) c.as-slice.ensures.value in
+    let at : c.find.result ≡ place (has n) es = c.find.ensures ∙ ap (place (has n)) c.as_slice.ensures.value in
     ap (λ i. ltb i c.len.result) at ∙ ap (ltb (place (has n) es)) (c.len.ensures ∙ c.args.self.now.entries.ok.0)
     ∙ sym (held_at key reading_of (λ e. refl) n es) ∙ sym (some_entries key reading_of (λ e. refl) n es)

@@ -12,22 +12,22 @@ returns-then-i-len c =
     let k = admits c.args.whose in
     let x = rows c.args.self.now in
     let e = c.index-entry.result.now in
-    let at : c.find-oldest-i.result ≡ place (candidate k) x.entries = c.find-oldest-i.ensures ∙ ap (place (candidate k)) c.as-slice.ensures.value in
+    let at : c.find_oldest-i.result ≡ place (candidate k) x.entries = c.find_oldest-i.ensures ∙ ap (place (candidate k)) c.as_slice.ensures.value in
     let there : place (candidate k) x.entries < length x.entries = omega (arith, at, c.args.self.now.entries.ok.0) in
     let item : get_or x.entries (place (candidate k) x.entries) e ≡ e = ap (λ i. get_or x.entries i e) (sym at) ∙ sym c.index-entry.ensures in
     let oldest : next_of k x.entries ≡ Some e = next_there k x.entries e there ∙ ap Some item in
     let room : leb (length x.events) 32 ≡ true = le-leb _ _ (omega (arith, c.len.ensures, c.args.self.now.events.ok.0)) in
     rows_path _ (issue_of k x (Some e))
-    (ap (set x.entries c.find-oldest-i.result) c.issued.ensures ∙ ap (λ i. set x.entries i (issued_now e)) at
+    (ap (set x.entries c.find_oldest-i.result) c.issued.ensures ∙ ap (λ i. set x.entries i (issued_now e)) at
     ∙ ap (λ g. set x.entries (place (candidate k) x.entries) (issued_now g)) (sym item) ∙ sym (issued_there k x.entries e there))
-    c.push-reserved.ensures.items
+    c.push_reserved.ensures.items
     ∙ ap (issue_of k x) (sym oldest) ∙ ap (λ b. cond b (issue_of k x (next_of k x.entries)) x) (sym room)
 
 pub returns-else-len-le32 : goal.returns-else-len-le32
 returns-else-len-le32 c =
     let k = admits c.args.whose in
     let x = rows c.args.self.now in
-    let at : c.find-oldest-i.result ≡ place (candidate k) x.entries = c.find-oldest-i.ensures ∙ ap (place (candidate k)) c.as-slice.ensures.value in
+    let at : c.find_oldest-i.result ≡ place (candidate k) x.entries = c.find_oldest-i.ensures ∙ ap (place (candidate k)) c.as_slice.ensures.value in
     let long = c.args.self.now.events.ok.0 in
     elim c.else-len-le32.branch [
       | else-len-le32-via-then-len-le32+else-i-len w ↦

@@ -11,13 +11,13 @@ pub returns : goal.returns
 returns c =
     let x = rows c.args.self.now in
     let v = c.args.self.now.entries in
-    let free : busy x ≡ None = ap (λ b. check b 20 None) (sym c.if-has-events.ensures) in
-    let aged = c.pass-all.ensures ∙ ap (map later) c.as-mut-slice.ensures.value in
-    let long : length c.pass-all.new.entries ≡ v.len = ap length aged ∙ length-map v.items later ∙ sym v.ok.0 in
-    let entries = with_items_is v c.pass-all.new.entries long ∙ aged in
+    let free : busy x ≡ None = ap (λ b. check b 20 None) (sym c.if-has_events.ensures) in
+    let aged = c.pass_all.ensures ∙ ap (map later) c.as_mut_slice.ensures.value in
+    let long : length c.pass_all.new.entries ≡ v.len = ap length aged ∙ length-map v.items later ∙ sym v.ok.0 in
+    let entries = with_items_is v c.pass_all.new.entries long ∙ aged in
     record {
       answer = sym free;
       after =
-          rows_path _ (passed x) entries (c.ready_dones.ensures.items ∙ ap (λ es. x.events ++ dones es) (c.as-slice.ensures.value ∙ entries))
+          rows_path _ (passed x) entries (c.ready_dones.ensures.items ∙ ap (λ es. x.events ++ dones es) (c.as_slice.ensures.value ∙ entries))
           ∙ ap (λ o. accepted o (passed x) x) (sym free);
     }

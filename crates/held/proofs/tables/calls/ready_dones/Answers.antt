@@ -10,9 +10,9 @@ loop-e-preserved c =
     let i = c.loop-e.e-index in
     elim c.if-expired.branch [
       | then-expired w ↦ (
-        ap (λ v. vec_items v ++ dones (drop (i + 1) hs)) w.events-is ∙ dones_here key expired (vec_items c.loop-e.events) _ hs i _ c.loop-e-test.true (sym c.expired.ensures ∙ w.if-expired.true) w.push-reserved.ensures.items ∙ c.loop-e.invariant.0,
-        omega (arith, ap vec_len w.events-is, w.push-reserved.ensures.len, c.loop-e.invariant.1),
-        ap vec_capacity w.events-is ∙ w.push-reserved.ensures.capacity ∙ c.loop-e.invariant.2,
+        ap (λ v. vec_items v ++ dones (drop (i + 1) hs)) w.events-is ∙ dones_here key expired (vec_items c.loop-e.events) _ hs i _ c.loop-e-test.true (sym c.expired.ensures ∙ w.if-expired.true) w.push_reserved.ensures.items ∙ c.loop-e.invariant.0,
+        omega (arith, ap vec_len w.events-is, w.push_reserved.ensures.len, c.loop-e.invariant.1),
+        ap vec_capacity w.events-is ∙ w.push_reserved.ensures.capacity ∙ c.loop-e.invariant.2,
       )
       | else-expired w ↦ (
         ap (λ v. vec_items v ++ dones (drop (i + 1) hs)) w.events-is ∙ ap (λ l. vec_items c.loop-e.events ++ l) (dones_not key expired hs i _ c.loop-e-test.true (sym c.expired.ensures ∙ w.if-expired.false)) ∙ c.loop-e.invariant.0,

@@ -27,7 +27,7 @@ returns g c =
     let f = c.args.forward in
     let s = m.state c.loop-event.below in
     let t = m.state c.collect.new.self in
-    let none = c.in-default.ensures.answer in
+    let none = c.in_default.ensures.answer in
     let empty = first_none (m.meaning.ready s) none in
     record {
       below = last_after m.meaning s t none c.collect.ensures.after ∙ ap (λ es. emptied m.meaning es s) (sym empty) ∙ c.loop-event.invariant.0;

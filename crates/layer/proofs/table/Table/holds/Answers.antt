@@ -7,6 +7,6 @@ use Rattle.layer.proofs.table.Table.holds.Goals as goal
 pub returns : goal.returns
 returns c =
     let hs = c.args.self.now.held in
-    ap (λ i. ltb i c.len.result) (c.find.ensures ∙ ap (place (has_in slot_of_entry c.args.slot)) c.as-slice.ensures.value)
+    ap (λ i. ltb i c.len.result) (c.find.ensures ∙ ap (place (has_in slot_of_entry c.args.slot)) c.as_slice.ensures.value)
     ∙ ap (ltb (place (has_in slot_of_entry c.args.slot) (vec_items hs))) (c.len.ensures ∙ hs.ok.0)
     ∙ held_place c.args.slot (vec_items hs)

@@ -13,7 +13,7 @@ returns-then-forwards c =
     let t = contents c.args.self.now in
     let f = updated (c.args.event ∷ []) in
     let ws = c.update.new.held in
-    let new : ws ≡ map f t.held = c.update.ensures ∙ ap (map f) c.as-mut-slice.ensures.value in
+    let new : ws ≡ map f t.held = c.update.ensures ∙ ap (map f) c.as_mut_slice.ensures.value in
     let long : length ws ≡ hs.len = ap length new ∙ length-map t.held f ∙ sym hs.ok.0 in
     contents_path (record { held = vec_items (with_items hs ws); events = vec_items c.add.new.events }) (gathered c.args.forward (c.args.event ∷ []) t) (with_items_is hs ws long ∙ new)
     (forwarded_on c.args.forward c.args.event _ t (sym c.if-forwards.ensures) c.add.ensures.items)
@@ -24,7 +24,7 @@ returns-else-forwards c =
     let t = contents c.args.self.now in
     let f = updated (c.args.event ∷ []) in
     let ws = c.update.new.held in
-    let new : ws ≡ map f t.held = c.update.ensures ∙ ap (map f) c.as-mut-slice.ensures.value in
+    let new : ws ≡ map f t.held = c.update.ensures ∙ ap (map f) c.as_mut_slice.ensures.value in
     let long : length ws ≡ hs.len = ap length new ∙ length-map t.held f ∙ sym hs.ok.0 in
     contents_path (record { held = vec_items (with_items hs ws); events = t.events }) (gathered c.args.forward (c.args.event ∷ []) t) (with_items_is hs ws long ∙ new)
     (not_forwarded c.args.forward c.args.event t (sym c.if-forwards.ensures))

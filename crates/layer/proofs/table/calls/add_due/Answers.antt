@@ -4,24 +4,24 @@ use Rattle.interface.proofs.Slots.{dones_here, dones_not, dones_end}
 use Rattle.layer.specs.Entries.{slot_of_entry, is_due}
 use Rattle.layer.specs.Contents.{added, all_added, dones_due}
 use Rattle.layer.proofs.table.calls.add_due.Goals as goal
-use Rattle.layer.proofs.table.calls.add_due.Goals.{then-is-due, else-is-due}
+use Rattle.layer.proofs.table.calls.add_due.Goals.{then-is_due, else-is_due}
 
 pub loop-item-preserved : goal.loop-item-preserved
 loop-item-preserved c =
     let hs = c.args.held.now in
     let i = c.loop-item.item-index in
     let due = is_due c.args.delay in
-    elim c.if-is-due.branch [
-      | then-is-due w ↦ (
+    elim c.if-is_due.branch [
+      | then-is_due w ↦ (
         ap (λ v. all_added (dones_due c.args.delay (drop (i + 1) hs)) (vec_items v)) w.events-is
             ∙ ap (all_added (dones_due c.args.delay (drop (i + 1) hs))) w.add.ensures.items
-            ∙ ap (λ es. all_added es (vec_items c.loop-item.events)) (dones_here slot_of_entry due [] _ hs i _ c.loop-item-test.true (sym c.is_due.ensures ∙ w.if-is-due.true) refl)
+            ∙ ap (λ es. all_added es (vec_items c.loop-item.events)) (dones_here slot_of_entry due [] _ hs i _ c.loop-item-test.true (sym c.is_due.ensures ∙ w.if-is_due.true) refl)
             ∙ c.loop-item.invariant.0,
         ap vec_capacity w.events-is ∙ w.add.ensures.capacity ∙ c.loop-item.invariant.1,
       )
-      | else-is-due w ↦ (
+      | else-is_due w ↦ (
         ap (λ v. all_added (dones_due c.args.delay (drop (i + 1) hs)) (vec_items v)) w.events-is
-            ∙ ap (λ es. all_added es (vec_items c.loop-item.events)) (dones_not slot_of_entry due hs i _ c.loop-item-test.true (sym c.is_due.ensures ∙ w.if-is-due.false))
+            ∙ ap (λ es. all_added es (vec_items c.loop-item.events)) (dones_not slot_of_entry due hs i _ c.loop-item-test.true (sym c.is_due.ensures ∙ w.if-is_due.false))
             ∙ c.loop-item.invariant.0,
         ap vec_capacity w.events-is ∙ c.loop-item.invariant.1,
       )

@@ -20,13 +20,13 @@ returns-in-Some c =
 pub returns-in-Some-pop : goal.returns-in-Some-pop
 returns-in-Some-pop c =
     let d = c.args.self.now in
-    let h = lane_added c.args.free c.args.vertices.now c.args.edges.now c.args.rest (lanes_view d) c.len.result (c.len.ensures ∙ lanes_len d) (lane_view c.fill.new.self) c.in-default.ensures c.fill.ensures in
-    record { answer = h.0; after = pushed_view lane_view d.lanes.items (vec_items c.push-reserved.new.self) c.fill.new.self _ c.push-reserved.ensures.items h.1 }
+    let h = lane_added c.args.free c.args.vertices.now c.args.edges.now c.args.rest (lanes_view d) c.len.result (c.len.ensures ∙ lanes_len d) (lane_view c.fill.new.self) c.in_default.ensures c.fill.ensures in
+    record { answer = h.0; after = pushed_view lane_view d.lanes.items (vec_items c.push_reserved.new.self) c.fill.new.self _ c.push_reserved.ensures.items h.1 }
 
 pub fill-requires : goal.fill-requires
-fill-requires c = good_shape c.len.result c.args.free c.args.vertices.now c.args.edges.now c.args.rest c.in-default.ensures
+fill-requires c = good_shape c.len.result c.args.free c.args.vertices.now c.args.edges.now c.args.rest c.in_default.ensures
 
-pub push-reserved-requires : goal.push-reserved-requires
-push-reserved-requires c =
-    let few = few_lanes c.len.result c.args.free c.args.vertices.now c.args.edges.now c.args.rest c.in-default.ensures in
+pub push_reserved-requires : goal.push_reserved-requires
+push_reserved-requires c =
+    let few = few_lanes c.len.result c.args.free c.args.vertices.now c.args.edges.now c.args.rest c.in_default.ensures in
     omega (arith, few, c.len.ensures, c.args.self.now.room)

@@ -6,7 +6,7 @@ use Rattle.patterns.proofs.domain.DomainLanes.renew_lane.Goals as goal
 pub returns-then-number-len : goal.returns-then-number-len
 returns-then-number-len c =
     let v = c.args.self.now.lanes in
-    viewed lane_view renewed v.items c.args.number _ c.renew.new.self (omega (arith, v.ok.0, c.len.ensures, c.if-number-len.true)) c.index-mut-lane.ensures.value c.renew.ensures
+    viewed lane_view renewed v.items c.args.number _ c.renew.new.self (omega (arith, v.ok.0, c.len.ensures, c.if-number-len.true)) c.index_mut-lane.ensures.value c.renew.ensures
 
 pub returns-else-number-len : goal.returns-else-number-len
 returns-else-number-len c =

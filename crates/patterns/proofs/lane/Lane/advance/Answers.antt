@@ -5,7 +5,7 @@ use Rattle.patterns.proofs.lane.Lane.advance.Goals as goal
 
 pub returns-then-vertex-len : goal.returns-then-vertex-len
 returns-then-vertex-len c =
-    let vs = placed (moved c.args.event) c.args.self.now.vertices.items c.args.vertex _ _ c.index-mut.ensures.value c.advance.ensures in
+    let vs = placed (moved c.args.event) c.args.self.now.vertices.items c.args.vertex _ _ c.index_mut.ensures.value c.advance.ensures in
     cc vs
 
 pub returns-else-vertex-len : goal.returns-else-vertex-len

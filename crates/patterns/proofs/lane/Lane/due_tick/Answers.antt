@@ -4,5 +4,5 @@ use Rattle.patterns.proofs.lane.Lane.due_tick.Goals as goal
 
 pub returns : goal.returns
 returns c =
-    let h = is_due (lane_view c.args.self.now) c.as-slice-2.result.now c.as-slice.result.now c.args.vertex c.due-among.result c.due-among.ensures c.as-slice-2.ensures.value c.as-slice.ensures.value in
+    let h = is_due (lane_view c.args.self.now) c.as_slice-2.result.now c.as_slice.result.now c.args.vertex c.due_among.result c.due_among.ensures c.as_slice-2.ensures.value c.as_slice.ensures.value in
     record { value = h.0; greatest = h.1 }

@@ -11,8 +11,8 @@ use Rattle.patterns.proofs.lane.Lane.renew.Goals as goal
 pub returns-in-Some : goal.returns-in-Some
 returns-in-Some c =
     let v = c.args.self.now.vertices in
-    let is = c.renew-all.ensures ∙ ap (map (moved NewRound)) c.as-mut-slice.ensures.value in
-    next_round (lane_view c.args.self.now) _ c.in-Some.end.number c.start-after-self.result
-    (c.in-Some.ensures ∙ ap (λ vs. round_end (done_by vs) (length vs)) c.as-slice.ensures.value)
-    (with_items_is v c.renew-all.new.vertices (omega (arith, ap length is, length-map v.items (moved NewRound), v.ok.0)) ∙ is)
-    c.start-after-self.ensures
+    let is = c.renew_all.ensures ∙ ap (map (moved NewRound)) c.as_mut_slice.ensures.value in
+    next_round (lane_view c.args.self.now) _ c.in-Some.end.number c.start_after-self.result
+    (c.in-Some.ensures ∙ ap (λ vs. round_end (done_by vs) (length vs)) c.as_slice.ensures.value)
+    (with_items_is v c.renew_all.new.vertices (omega (arith, ap length is, length-map v.items (moved NewRound), v.ok.0)) ∙ is)
+    c.start_after-self.ensures

@@ -12,7 +12,7 @@ edge-requires c =
 
 pub loop-edge-preserved : goal.loop-edge-preserved
 loop-edge-preserved c = (
-  pushed_more edge_of c.args.edges.now (vec_items c.loop-edge.list) (vec_items c.push-reserved.new.self) c.loop-edge.edge_index _ c.edge.result c.loop-edge-test.true c.loop-edge.invariant.0 c.edge.ensures c.push-reserved.ensures.items,
+  pushed_more edge_of c.args.edges.now (vec_items c.loop-edge.list) (vec_items c.push_reserved.new.self) c.loop-edge.edge_index _ c.edge.result c.loop-edge-test.true c.loop-edge.invariant.0 c.edge.ensures c.push_reserved.ensures.items,
   search rules,
   search rules,
 )

@@ -9,7 +9,7 @@ still-requires c = ltb-false 7 _ (any_fails high_bank c.args.vertices.now c.loop
 
 pub loop-vertex-preserved : goal.loop-vertex-preserved
 loop-vertex-preserved c = (
-  pushed_more vertex_of c.args.vertices.now (vec_items c.loop-vertex.list) (vec_items c.push-reserved.new.self) c.loop-vertex.vertex-index _ c.still.result c.loop-vertex-test.true c.loop-vertex.invariant.0 c.still.ensures c.push-reserved.ensures.items,
+  pushed_more vertex_of c.args.vertices.now (vec_items c.loop-vertex.list) (vec_items c.push_reserved.new.self) c.loop-vertex.vertex-index _ c.still.result c.loop-vertex-test.true c.loop-vertex.invariant.0 c.still.ensures c.push_reserved.ensures.items,
   search rules,
   search rules,
 )

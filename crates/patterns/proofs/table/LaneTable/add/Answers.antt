@@ -22,6 +22,6 @@ returns c =
     record {
       answer =
           in_domain (table_view c.args.self.now) c.args.domain c.args.free c.args.vertices.now c.args.edges.now c.args.rest _ (refused c.add.result) (omega (arith, lt, length-map v.items lanes_view))
-          (getD_viewed lanes_view (λ x. x) v.items c.args.domain [] _ lt c.index-mut.ensures.value) c.add.ensures.answer;
-      after = viewed lanes_view (with_lane c.args.free c.args.vertices.now c.args.edges.now c.args.rest) v.items c.args.domain _ c.add.new.self lt c.index-mut.ensures.value c.add.ensures.after;
+          (getD_viewed lanes_view (λ x. x) v.items c.args.domain [] _ lt c.index_mut.ensures.value) c.add.ensures.answer;
+      after = viewed lanes_view (with_lane c.args.free c.args.vertices.now c.args.edges.now c.args.rest) v.items c.args.domain _ c.add.new.self lt c.index_mut.ensures.value c.add.ensures.after;
     }

@@ -8,7 +8,7 @@ pub returns-then-domain-len : goal.returns-then-domain-len
 returns-then-domain-len c =
     let v = c.args.self.now.domains in
     let move : List LaneView → List LaneView = λ ls. changed (advanced c.args.event c.args.vertex) ls c.args.number in
-    viewed lanes_view move v.items c.args.domain _ c.advance.new.self (omega (arith, v.ok.0, c.len.ensures, c.if-domain-len.true)) c.index-mut.ensures.value c.advance.ensures
+    viewed lanes_view move v.items c.args.domain _ c.advance.new.self (omega (arith, v.ok.0, c.len.ensures, c.if-domain-len.true)) c.index_mut.ensures.value c.advance.ensures
 
 pub returns-else-domain-len : goal.returns-else-domain-len
 returns-else-domain-len c =

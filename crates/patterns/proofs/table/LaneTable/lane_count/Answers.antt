@@ -6,7 +6,7 @@ use Rattle.patterns.proofs.table.LaneTable.lane_count.Goals as goal
 pub returns-then-domain-len : goal.returns-then-domain-len
 returns-then-domain-len c =
     let v = c.args.self.now.domains in
-    c.lane-count.ensures ∙ ap length (getD_viewed lanes_view (λ x. x) v.items c.args.domain [] c.index.result.now (omega (arith, v.ok.0, c.len.ensures, c.if-domain-len.true)) c.index.ensures)
+    c.lane_count.ensures ∙ ap length (getD_viewed lanes_view (λ x. x) v.items c.args.domain [] c.index.result.now (omega (arith, v.ok.0, c.len.ensures, c.if-domain-len.true)) c.index.ensures)
 
 pub returns-else-domain-len : goal.returns-else-domain-len
 returns-else-domain-len c =

@@ -13,7 +13,7 @@ loop-domain-preserved c =
     let i = c.loop-domain.domain in
     let lt : i < length here.domains.items = omega (arith, here.domains.ok.0, here.eight, old.eight, c.len-domain-end.ensures, c.loop-domain-test.true) in
     walk_more (map (started c.args.tick)) (table_view old) (table_view here) _ i (omega (arith, length-map old.domains.items lanes_view, old.domains.ok.0, c.len-domain-end.ensures, c.loop-domain-test.true)) c.loop-domain.invariant
-    (viewed lanes_view (map (started c.args.tick)) here.domains.items i _ c.start_at.new.self lt c.index-mut.ensures.value c.start_at.ensures)
+    (viewed lanes_view (map (started c.args.tick)) here.domains.items i _ c.start_at.new.self lt c.index_mut.ensures.value c.start_at.ensures)
 
 pub returns : goal.returns
 returns c =
