@@ -15,7 +15,7 @@ push_reserved-requires c =
 pub invariant_of-self : goal.invariant_of-self
 invariant_of-self c =
     let few : vec_len c.args.self.now.entries < 32 = leb-false _ _ (sym c.if-is_full.ensures) in
-    (omega (arith, c.push_reserved.ensures.len), (omega (arith, c.push_reserved.ensures.capacity, c.args.self.now.places), (c.args.self.now.room, tt)))
+    record { few = omega (arith, c.push_reserved.ensures.len); places = omega (arith, c.push_reserved.ensures.capacity, c.args.self.now.places); room = c.args.self.now.room }
 
 pub returns-then-is_full : goal.returns-then-is_full
 returns-then-is_full c =

@@ -19,7 +19,9 @@ overflow_cast-self c =
     omega (arith, ok.short)
 
 pub invariant_of-self : goal.invariant_of-self
-invariant_of-self c = let old = c.args.self.now in (omega (arith, old.vertex_room, c.set_vertices.ensures.capacity), (omega (arith, old.edge_room, c.set_edges.ensures.capacity), tt))
+invariant_of-self c =
+    let old = c.args.self.now in
+    record { vertex_room = omega (arith, old.vertex_room, c.set_vertices.ensures.capacity); edge_room = omega (arith, old.edge_room, c.set_edges.ensures.capacity) }
 
 pub returns : goal.returns
 returns c = let vs = c.set_vertices.ensures.items in let es = c.set_edges.ensures.items in cc (vs, es)
