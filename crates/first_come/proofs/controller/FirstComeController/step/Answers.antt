@@ -7,11 +7,11 @@ use Rattle.first_come.specs.State.{view, issue, elapsed, state_codes, state_of, 
 use Rattle.first_come.proofs.States.{with_rows, state_path}
 use Rattle.first_come.proofs.controller.FirstComeController.step.Goals as goal
 
-pub returns-in-err-step : goal.returns-in-err-step
-returns-in-err-step c =
+pub returns-in_err-step : goal.returns-in_err-step
+returns-in_err-step c =
     let s = view c.args.self.now in
-    let p = err_from_is_err_and c.from-residual.result c.from-residual.ensures.1 in
-    let busy_now : busy s.rows ≡ Some (number c.in-err-step.field-0.0) = sym c.in-err-step.ensures.answer in
+    let p = err_from_is_err_and c.from_residual.result c.from_residual.ensures.1 in
+    let busy_now : busy s.rows ≡ Some (number c.in_err-step.field-0.0) = sym c.in_err-step.ensures.answer in
     record {
       answer = ap refused p.1 ∙ ap (λ y. Some (number y)) p.2 ∙ step_is state_codes state_of state_back state_meaning s _ busy_now;
       after = after_is state_codes state_of state_back state_meaning Call.step s _
@@ -22,7 +22,7 @@ returns-in-err-step c =
 pub returns : goal.returns
 returns c =
     let s = view c.args.self.now in
-    let free : busy s.rows ≡ None = sym c.in-ok-step.ensures.answer in
+    let free : busy s.rows ≡ None = sym c.in_ok-step.ensures.answer in
     record {
       answer = step_is state_codes state_of state_back state_meaning s _ free;
       after = after_is state_codes state_of state_back state_meaning Call.step s _

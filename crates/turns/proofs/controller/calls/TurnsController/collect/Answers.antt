@@ -8,7 +8,7 @@ pub returns : goal.returns
 returns c =
     let s = view c.args.self.now in
     record {
-      answer = collect_is state_codes state_of state_back state_meaning s _ (sym c.hand-out.ensures.answer);
+      answer = collect_is state_codes state_of state_back state_meaning s _ (sym c.hand_out.ensures.answer);
       after = after_is state_codes state_of state_back state_meaning Call.collect s _
-          (c.hand-out.ensures.after ∙ sym (cond_ap (with_rows s) (is_empty s.rows.events) _ _));
+          (c.hand_out.ensures.after ∙ sym (cond_ap (with_rows s) (is_empty s.rows.events) _ _));
     }

@@ -6,11 +6,11 @@ use Rattle.held.specs.Rows.{busy, passed}
 use Rattle.turns.specs.State.{view, with_rows, issue_in_turn, counted, state_meaning, state_codes, state_of, state_back}
 use Rattle.turns.proofs.controller.calls.TurnsController.step.Goals as goal
 
-pub returns-in-err-step : goal.returns-in-err-step
-returns-in-err-step c =
+pub returns-in_err-step : goal.returns-in_err-step
+returns-in_err-step c =
     let s = view c.args.self.now in
-    let p = err_from_is_err_and c.from-residual.result c.from-residual.ensures.1 in
-    let busy_now : busy s.rows ≡ Some (number c.in-err-step.field-0.0) = sym c.in-err-step.ensures.answer in
+    let p = err_from_is_err_and c.from_residual.result c.from_residual.ensures.1 in
+    let busy_now : busy s.rows ≡ Some (number c.in_err-step.field-0.0) = sym c.in_err-step.ensures.answer in
     record {
       answer = ap refused p.1 ∙ ap (λ y. Some (number y)) p.2 ∙ step_is state_codes state_of state_back state_meaning s _ busy_now;
       after = after_is state_codes state_of state_back state_meaning Call.step s _
@@ -21,11 +21,11 @@ returns-in-err-step c =
 pub returns : goal.returns
 returns c =
     let s = view c.args.self.now in
-    let free : busy s.rows ≡ None = sym c.in-ok-step.ensures.answer in
+    let free : busy s.rows ≡ None = sym c.in_ok-step.ensures.answer in
     record {
       answer = step_is state_codes state_of state_back state_meaning s _ free;
       after = after_is state_codes state_of state_back state_meaning Call.step s _
-          (c.take-turn.ensures
+          (c.take_turn.ensures
           ∙ ap (λ t. counted (issue_in_turn (with_rows s t))) (c.step.ensures.after ∙ ap (λ o. accepted o (passed s.rows) s.rows) free)
           ∙ ap (λ o. accepted o (state_meaning.stepped s) s) (sym free));
     }
