@@ -27,7 +27,7 @@ impl<C: CountableSpan + Drop> Level<C> {
 impl<C: Controller + Drop> Level<C> {
     // A level with this table over `below`, which is reset.
     fn over(below: C, delay: u16, table: Table) -> Level<C>
-        ensures { view state result ≡ record { delay = delay; table = contents table; below = meaning.start (state below) } }
+        ensures { view C.state result ≡ record { delay = delay; table = contents table; below = C.meaning.start (C.state below) } }
     {
         let mut level = Level {
             below,
@@ -40,8 +40,8 @@ impl<C: Controller + Drop> Level<C> {
 
     // Holds a request, and has it held below.
     fn hold(&mut self, request: Request) -> Result<(), Refusal>
-        ensures answer { refused result ≡ admission ((meaning_over meaning).places (view state self.old)) (view state self.old).table request }
-        ensures after { view state self.new ≡ accepted (refused result) ((meaning_over meaning).taken (view state self.old) request) (view state self.old) }
+        ensures answer { refused result ≡ admission ((meaning_over C.meaning).places (view C.state self.old)) (view C.state self.old).table request }
+        ensures after { view C.state self.new ≡ accepted (refused result) ((meaning_over C.meaning).taken (view C.state self.old) request) (view C.state self.old) }
     {
         self.table.admit(self.below.places(), request)?;
         let _ = self.below.take(request);
@@ -50,8 +50,8 @@ impl<C: Controller + Drop> Level<C> {
 
     // Lets a tick pass: the Issues from below come first, and then the Dones that are due.
     fn pass(&mut self) -> Result<(), Refusal>
-        ensures answer { refused result ≡ step_refusal (meaning_over meaning) (view state self.old) }
-        ensures after { view state self.new ≡ accepted (refused result) ((meaning_over meaning).stepped (view state self.old)) (view state self.old) }
+        ensures answer { refused result ≡ step_refusal (meaning_over C.meaning) (view C.state self.old) }
+        ensures after { view C.state self.new ≡ accepted (refused result) ((meaning_over C.meaning).stepped (view C.state self.old)) (view C.state self.old) }
     {
         if self.table.has_events() {
             return Err(Refusal::EventsReady);
@@ -65,7 +65,7 @@ impl<C: Controller + Drop> Level<C> {
 
     // Holds nothing, here and below.
     fn clear(&mut self)
-        ensures { view state self.new ≡ (meaning_over meaning).start (view state self.old) }
+        ensures { view C.state self.new ≡ (meaning_over C.meaning).start (view C.state self.old) }
     {
         self.table.clear();
         self.below.reset();
