@@ -7,21 +7,17 @@ use Rattle.board.proofs.Limits.{roles_map, formed_map}
 use Rattle.board.proofs.Moves.{renewed_pattern, advanced_pattern, roles_changed, formed_changed}
 use Rattle.board.proofs.board.Board.advance.Goals as goal
 
-pub invariant-of-self : goal.invariant-of-self
-invariant-of-self c =
+pub invariant_of-self : goal.invariant_of-self
+invariant_of-self c =
     let b = c.args.self.now in
-    let v = board_view b in (
-      b.eight,
-      (
-        b.slot_room,
-        (
-          b.counted
-              ∙ ap (λ (rs : List Role). length (all_slots (record { first = b.first; roles = rs }))) (sym (roles_changed (advanced c.args.event (c.args.slot % 8)) (advanced_pattern c.args.event (c.args.slot % 8)) v.shares v.lanes (c.args.slot / 64) (c.args.slot / 8 % 8)))
-              ∙ ap (λ (t : List (List LaneView)). length (all_slots (settings_by b.first v.shares t))) (sym c.advance.ensures),
-          (ap formed c.advance.ensures ∙ formed_changed (advanced c.args.event (c.args.slot % 8)) (advanced_pattern c.args.event (c.args.slot % 8)) v.lanes (c.args.slot / 64) (c.args.slot / 8 % 8) ∙ b.well_formed, tt),
-        ),
-      ),
-    )
+    let v = board_view b in record {
+      eight = b.eight;
+      slot_room = b.slot_room;
+      counted = b.counted
+          ∙ ap (λ (rs : List Role). length (all_slots (record { first = b.first; roles = rs }))) (sym (roles_changed (advanced c.args.event (c.args.slot % 8)) (advanced_pattern c.args.event (c.args.slot % 8)) v.shares v.lanes (c.args.slot / 64) (c.args.slot / 8 % 8)))
+          ∙ ap (λ (t : List (List LaneView)). length (all_slots (settings_by b.first v.shares t))) (sym c.advance.ensures);
+      well_formed = ap formed c.advance.ensures ∙ formed_changed (advanced c.args.event (c.args.slot % 8)) (advanced_pattern c.args.event (c.args.slot % 8)) v.lanes (c.args.slot / 64) (c.args.slot / 8 % 8) ∙ b.well_formed;
+    }
 
 pub returns : goal.returns
 returns c =

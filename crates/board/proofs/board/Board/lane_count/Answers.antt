@@ -7,4 +7,4 @@ pub returns : goal.returns
 returns c =
     let b = c.args.self.now in
     let few = few_lanes (board_view b).lanes b.well_formed c.args.domain in
-    record { value = c.lane-count.ensures; few = omega (arith, few, c.lane-count.ensures) }
+    record { value = c.lane_count.ensures; few = omega (arith, few, c.lane_count.ensures) }

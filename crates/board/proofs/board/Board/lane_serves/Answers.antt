@@ -6,7 +6,7 @@ use Rattle.board.proofs.board.Board.lane_serves.Goals as goal
 
 pub returns-in-Some : goal.returns-in-Some
 returns-in-Some c =
-    c.has-vertex.ensures
+    c.has_vertex.ensures
     ∙ ap (λ (vs : List Vertex). any (vertex_serves c.args.bank c.args.kind) vs) c.vertices.ensures
     ∙ ap (lane_at_serves c.args.bank c.args.kind) c.in-Some.ensures
 

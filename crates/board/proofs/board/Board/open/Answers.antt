@@ -13,25 +13,21 @@ returns-in-Some c =
     let e = c.in-Some.ensures ∙ open_refusal (board_view b) b.used (known b) c.args.places c.args.domain c.args.share in
     record { answer = e; after = refused_view (board_view b) c.args.places (opens c.args.domain c.args.share) _ e }
 
-pub invariant-of-self : goal.invariant-of-self
-invariant-of-self c =
+pub invariant_of-self : goal.invariant_of-self
+invariant_of-self c =
     let b = c.args.self.now in
-    let e = c.in-default.ensures ∙ open_refusal (board_view b) b.used (known b) c.args.places c.args.domain c.args.share in (
-      b.eight,
-      (
-        b.slot_room,
-        (
-          open_counts (board_view b) b.used (known b) c.args.places c.args.domain c.args.share e
-              ∙ ap (λ (s : List (Option ℕ)). length (all_slots (settings_by b.first s (table_view b.lanes)))) (sym (shares_set b.shares.items c.args.domain c.args.share c.in-Some-new.chosen (share_is c.args.share c.in-Some-new.chosen.slots c.in-Some-new.ensures))),
-          (b.well_formed, tt),
-        ),
-      ),
-    )
+    let e = c.in_default.ensures ∙ open_refusal (board_view b) b.used (known b) c.args.places c.args.domain c.args.share in record {
+      eight = b.eight;
+      slot_room = b.slot_room;
+      counted = open_counts (board_view b) b.used (known b) c.args.places c.args.domain c.args.share e
+          ∙ ap (λ (s : List (Option ℕ)). length (all_slots (settings_by b.first s (table_view b.lanes)))) (sym (shares_set b.shares.items c.args.domain c.args.share c.in-Some-new.chosen (share_is c.args.share c.in-Some-new.chosen.slots c.in-Some-new.ensures)));
+      well_formed = b.well_formed;
+    }
 
 pub returns-in-Some-new : goal.returns-in-Some-new
 returns-in-Some-new c =
     let b = c.args.self.now in
-    let e = c.in-default.ensures ∙ open_refusal (board_view b) b.used (known b) c.args.places c.args.domain c.args.share in
+    let e = c.in_default.ensures ∙ open_refusal (board_view b) b.used (known b) c.args.places c.args.domain c.args.share in
     record {
       answer = e;
       after = accepted_view (board_view b) _ c.args.places (opens c.args.domain c.args.share) e

@@ -7,21 +7,17 @@ use Rattle.board.proofs.Limits.{roles_map, formed_map}
 use Rattle.board.proofs.Moves.{renewed_pattern, advanced_pattern, roles_changed, formed_changed}
 use Rattle.board.proofs.board.Board.renew.Goals as goal
 
-pub invariant-of-self : goal.invariant-of-self
-invariant-of-self c =
+pub invariant_of-self : goal.invariant_of-self
+invariant_of-self c =
     let b = c.args.self.now in
-    let v = board_view b in (
-      b.eight,
-      (
-        b.slot_room,
-        (
-          b.counted
-              ∙ ap (λ (rs : List Role). length (all_slots (record { first = b.first; roles = rs }))) (sym (roles_map renewed renewed_pattern v.shares v.lanes))
-              ∙ ap (λ (t : List (List LaneView)). length (all_slots (settings_by b.first v.shares t))) (sym c.renew.ensures.after),
-          (ap formed c.renew.ensures.after ∙ formed_map renewed renewed_pattern v.lanes ∙ b.well_formed, tt),
-        ),
-      ),
-    )
+    let v = board_view b in record {
+      eight = b.eight;
+      slot_room = b.slot_room;
+      counted = b.counted
+          ∙ ap (λ (rs : List Role). length (all_slots (record { first = b.first; roles = rs }))) (sym (roles_map renewed renewed_pattern v.shares v.lanes))
+          ∙ ap (λ (t : List (List LaneView)). length (all_slots (settings_by b.first v.shares t))) (sym c.renew.ensures.after);
+      well_formed = ap formed c.renew.ensures.after ∙ formed_map renewed renewed_pattern v.lanes ∙ b.well_formed;
+    }
 
 pub returns : goal.returns
 returns c =

@@ -16,17 +16,17 @@ front b k ls i t lt e = go ls i lt e ∙ ap (λ n. t || any (lane_serves b k) (d
     go (l ∷ ls) zero lt e = ap (λ s. s || any (lane_serves b k) ls) (sym e)
     go (l ∷ ls) (suc i) lt e = go ls i (omega arith) e
 
-pub returns-then-lane-serves : goal.returns-then-lane-serves
-returns-then-lane-serves c =
+pub returns-then-lane_serves : goal.returns-then-lane_serves
+returns-then-lane_serves c =
     let ls = get_or (board_view c.args.self.now).lanes c.args.domain [] in
-    sym (front c.args.bank c.args.kind ls c.loop-lane.lane true (omega (arith, c.loop-lane-test.true, c.lane-count-lane-end.ensures)) c.if-lane-serves.ensures) ∙ c.loop-lane.invariant
+    sym (front c.args.bank c.args.kind ls c.loop-lane.lane true (omega (arith, c.loop-lane-test.true, c.lane_count-lane-end.ensures)) c.if-lane_serves.ensures) ∙ c.loop-lane.invariant
 
 pub loop-lane-preserved : goal.loop-lane-preserved
 loop-lane-preserved c =
     let ls = get_or (board_view c.args.self.now).lanes c.args.domain [] in
-    sym (front c.args.bank c.args.kind ls c.loop-lane.lane false (omega (arith, c.loop-lane-test.true, c.lane-count-lane-end.ensures)) c.if-lane-serves.ensures) ∙ c.loop-lane.invariant
+    sym (front c.args.bank c.args.kind ls c.loop-lane.lane false (omega (arith, c.loop-lane-test.true, c.lane_count-lane-end.ensures)) c.if-lane_serves.ensures) ∙ c.loop-lane.invariant
 
 pub returns : goal.returns
 returns c =
     let ls = get_or (board_view c.args.self.now).lanes c.args.domain [] in
-    sym (any_end (lane_serves c.args.bank c.args.kind) ls c.loop-lane.lane (omega (arith, c.loop-lane-test.false, c.lane-count-lane-end.ensures))) ∙ c.loop-lane.invariant
+    sym (any_end (lane_serves c.args.bank c.args.kind) ls c.loop-lane.lane (omega (arith, c.loop-lane-test.false, c.lane_count-lane-end.ensures))) ∙ c.loop-lane.invariant

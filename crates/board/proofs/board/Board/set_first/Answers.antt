@@ -15,23 +15,19 @@ returns-in-Some c =
       after = λ places. refused_view b places (first c.args.number) _ (c.in-Some.ensures ∙ first_refused b places c.args.number);
     }
 
-pub invariant-of-self : goal.invariant-of-self
-invariant-of-self c =
-    let b = c.args.self.now in (
-      b.eight,
-      (
-        b.slot_room,
-        (
-          b.counted ∙ roles_only (settings_by b.first (shares_view b.shares.items) (table_view b.lanes)) (settings_by c.args.number (shares_view b.shares.items) (table_view b.lanes)) refl,
-          (b.well_formed, tt),
-        ),
-      ),
-    )
+pub invariant_of-self : goal.invariant_of-self
+invariant_of-self c =
+    let b = c.args.self.now in record {
+      eight = b.eight;
+      slot_room = b.slot_room;
+      counted = b.counted ∙ roles_only (settings_by b.first (shares_view b.shares.items) (table_view b.lanes)) (settings_by c.args.number (shares_view b.shares.items) (table_view b.lanes)) refl;
+      well_formed = b.well_formed;
+    }
 
 pub returns : goal.returns
 returns c =
     let b = board_view c.args.self.now in
     record {
-      answer = λ places. c.in-default.ensures ∙ first_refused b places c.args.number;
-      after = λ places. accepted_view b _ places (first c.args.number) (c.in-default.ensures ∙ first_refused b places c.args.number) refl;
+      answer = λ places. c.in_default.ensures ∙ first_refused b places c.args.number;
+      after = λ places. accepted_view b _ places (first c.args.number) (c.in_default.ensures ∙ first_refused b places c.args.number) refl;
     }

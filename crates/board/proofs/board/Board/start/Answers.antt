@@ -6,22 +6,18 @@ use Rattle.board.specs.Boards.{board_view}
 use Rattle.board.proofs.Limits.{roles_map, formed_map}
 use Rattle.board.proofs.board.Board.start.Goals as goal
 
-pub invariant-of-self : goal.invariant-of-self
-invariant-of-self c =
+pub invariant_of-self : goal.invariant_of-self
+invariant_of-self c =
     let b = c.args.self.now in
     let v = board_view b in
-    let g = started b.first in (
-      b.eight,
-      (
-        b.slot_room,
-        (
-          b.counted
-              ∙ ap (λ (rs : List Role). length (all_slots (record { first = b.first; roles = rs }))) (sym (roles_map g (λ l. refl) v.shares v.lanes))
-              ∙ ap (λ (t : List (List LaneView)). length (all_slots (settings_by b.first v.shares t))) (sym c.start_at.ensures),
-          (ap formed c.start_at.ensures ∙ formed_map g (λ l. refl) v.lanes ∙ b.well_formed, tt),
-        ),
-      ),
-    )
+    let g = started b.first in record {
+      eight = b.eight;
+      slot_room = b.slot_room;
+      counted = b.counted
+          ∙ ap (λ (rs : List Role). length (all_slots (record { first = b.first; roles = rs }))) (sym (roles_map g (λ l. refl) v.shares v.lanes))
+          ∙ ap (λ (t : List (List LaneView)). length (all_slots (settings_by b.first v.shares t))) (sym c.start_at.ensures);
+      well_formed = ap formed c.start_at.ensures ∙ formed_map g (λ l. refl) v.lanes ∙ b.well_formed;
+    }
 
 pub returns : goal.returns
 returns c =

@@ -12,7 +12,7 @@ loop-domain-preserved c =
     let k = known c.args.board.now in
     let d = c.loop-domain.domain in
     let later = domains_leaving c.args.tick (d + 1) (drop (d + 1) b.shares) (drop (d + 1) b.lanes) in
-    ap (all_added later) c.add-domain.ensures.items
+    ap (all_added later) c.add_domain.ensures.items
     ∙ sym (all_added_append (domain_leaving c.args.tick d (get_or b.shares d None) (get_or b.lanes d [])) later (vec_items c.loop-domain.self.list))
     ∙ ap (λ qs. all_added qs (vec_items c.loop-domain.self.list)) (sym (domains_front c.args.tick b.shares b.lanes d (omega (arith, k.eight, c.loop-domain-test.true)) (k.eight ∙ sym k.as_many)))
     ∙ c.loop-domain.invariant
