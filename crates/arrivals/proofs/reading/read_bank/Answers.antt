@@ -2,9 +2,9 @@ use Rattle.std.proofs.Common.{rules}
 use Rattle.arrivals.specs.Reading.{bank_read, moved_on}
 use Rattle.arrivals.proofs.reading.read_bank.Goals as goal
 
-pub returns-in-err-read-number : goal.returns-in-err-read-number
+pub returns-in_err-read_number : goal.returns-in_err-read_number
 unfolding bank_read moved_on
-returns-in-err-read-number c = search rules
+returns-in_err-read_number c = search rules
 
 pub returns : goal.returns
 unfolding bank_read moved_on

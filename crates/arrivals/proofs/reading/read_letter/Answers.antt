@@ -6,21 +6,21 @@ pub returns-in-len1 : goal.returns-in-len1
 unfolding kind_read moved_on
 returns-in-len1 c = search rules
 
-pub returns-in-default : goal.returns-in-default
+pub returns-in_default : goal.returns-in_default
 unfolding kind_read moved_on
-returns-in-default c = search rules
+returns-in_default c = search rules
 
-pub returns-in-default·2 : goal.returns-in-default·2
+pub returns-in_default-2 : goal.returns-in_default-2
 unfolding kind_read moved_on
-returns-in-default·2 c = search rules
+returns-in_default-2 c = search rules
 
 pub returns-in-Ok : goal.returns-in-Ok
 unfolding kind_read moved_on
 returns-in-Ok c = search rules
 
-pub returns-in-Ok·2 : goal.returns-in-Ok·2
+pub returns-in-Ok-2 : goal.returns-in-Ok-2
 unfolding kind_read moved_on
-returns-in-Ok·2 c = search rules
+returns-in-Ok-2 c = search rules
 
 pub returns-in-Err : goal.returns-in-Err
 unfolding kind_read moved_on

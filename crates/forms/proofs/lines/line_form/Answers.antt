@@ -8,5 +8,5 @@ use Rattle.forms.proofs.lines.line_form.Goals as goal
 
 pub returns-in-Some : goal.returns-in-Some
 returns-in-Some c =
-    left_over (option_map content c.in-ok-read.read) (ahead c.form.new.lexer) (ahead c.starting-at-lexer.result) _ _ c.in-ok-read.ensures c.in-Some.ensures
-    ∙ ap (λ (k : Cursor). form_of (scanned k).signs) c.starting-at-lexer.ensures
+    left_over (option_map content c.in_ok-read.read) (ahead c.form.new.lexer) (ahead c.starting_at-lexer.result) _ _ c.in_ok-read.ensures c.in-Some.ensures
+    ∙ ap (λ (k : Cursor). form_of (scanned k).signs) c.starting_at-lexer.ensures

@@ -3,8 +3,8 @@ use Rattle.std.proofs.lemmas.Bool.{cond-true, cond-false}
 use Rattle.forms.proofs.Spelling.{reads_back}
 use Rattle.forms.proofs.reader.Reader.new.Goals as goal
 
-pub returns-then-too-long : goal.returns-then-too-long
-returns-then-too-long c = record { value = search rules; law = reads_back }
+pub returns-then-too_long : goal.returns-then-too_long
+returns-then-too_long c = record { value = search rules; law = reads_back }
 
 pub returns : goal.returns
 returns c = record { value = search rules; law = reads_back }

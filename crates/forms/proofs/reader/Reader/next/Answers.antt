@@ -6,13 +6,13 @@ pub front-requires : goal.front-requires
 front-requires c =
     let text = c.args.self.now.text.now in
     let at = c.args.self.now.at in
-    omega (arith, ends_within text at (not_past text at (sym c.if-past-end.ensures)), c.end-of-line-end.ensures)
+    omega (arith, ends_within text at (not_past text at (sym c.if-past_end.ensures)), c.end_of_line-end.ensures)
 
 pub returns : goal.returns
 returns c =
     let text = c.args.self.now.text.now in
     let at = c.args.self.now.at in
     record {
-      answer = next_reads text at c.read-line.result c.front.result.now c.end-of-line-end.result c.end-of-line-end.ensures c.front.ensures (sym c.if-past-end.ensures) c.read-line.ensures;
-      after = next_places text at c.end-of-line-end.result c.after-line-self.result c.end-of-line-end.ensures c.after-line-self.ensures (sym c.if-past-end.ensures);
+      answer = next_reads text at c.read_line.result c.front.result.now c.end_of_line-end.result c.end_of_line-end.ensures c.front.ensures (sym c.if-past_end.ensures) c.read_line.ensures;
+      after = next_places text at c.end_of_line-end.result c.after_line-self.result c.end_of_line-end.ensures c.after_line-self.ensures (sym c.if-past_end.ensures);
     }
