@@ -14,7 +14,7 @@ loop-line-preserved c =
       | in-T w ↦ (
         w.taken-is ∙ one is_taken ls i _ _ lt inv.0 (ap is_taken w.in-T.is),
         w.issued-is ∙ same is_issued ls i _ _ lt inv.1 (ap is_issued w.in-T.is),
-        w.done_is ∙ same is_done ls i _ _ lt inv.2 (ap is_done w.in-T.is),
+        w.done-is ∙ same is_done ls i _ _ lt inv.2 (ap is_done w.in-T.is),
         omega arith,
         omega arith,
         omega arith,
@@ -22,7 +22,7 @@ loop-line-preserved c =
       | in-I w ↦ (
         w.taken-is ∙ same is_taken ls i _ _ lt inv.0 (ap is_taken w.in-I.is),
         w.issued-is ∙ one is_issued ls i _ _ lt inv.1 (ap is_issued w.in-I.is),
-        w.done_is ∙ same is_done ls i _ _ lt inv.2 (ap is_done w.in-I.is),
+        w.done-is ∙ same is_done ls i _ _ lt inv.2 (ap is_done w.in-I.is),
         omega arith,
         omega arith,
         omega arith,
@@ -30,7 +30,7 @@ loop-line-preserved c =
       | in-D w ↦ (
         w.taken-is ∙ same is_taken ls i _ _ lt inv.0 (ap is_taken w.in-D.is),
         w.issued-is ∙ same is_issued ls i _ _ lt inv.1 (ap is_issued w.in-D.is),
-        w.done_is ∙ one is_done ls i _ _ lt inv.2 (ap is_done w.in-D.is),
+        w.done-is ∙ one is_done ls i _ _ lt inv.2 (ap is_done w.in-D.is),
         omega arith,
         omega arith,
         omega arith,
