@@ -7,7 +7,7 @@ pub returns-then-domain-len : goal.returns-then-domain-len
 returns-then-domain-len c =
     let v = c.args.self.now.backlogs in
     ap (λ (l : List BacklogView). record { backlogs = l; payloads = c.args.self.now.payloads.items })
-    (viewed backlog_view (counted) v.items c.args.domain _ c.count.new.self (omega (arith, v.ok.0, c.len.ensures, c.if-domain-len.true)) c.index-mut-chosen.ensures.value c.count.ensures)
+    (viewed backlog_view (counted) v.items c.args.domain _ c.count.new.self (omega (arith, v.ok.0, c.len.ensures, c.if-domain-len.true)) c.index_mut-chosen.ensures.value c.count.ensures)
 
 pub returns-else-domain-len : goal.returns-else-domain-len
 returns-else-domain-len c =

@@ -8,9 +8,9 @@ pub returns-then-domain-len : goal.returns-then-domain-len
 returns-then-domain-len c =
     let v = c.args.self.now.backlogs in
     record {
-      value = c.leave.ensures.value ∙ ap (λ (x : BacklogView). oldest c.args.bank c.args.kind x.queue) (getD_viewed backlog_view (λ x. x) v.items c.args.domain no_backlog _ (omega (arith, v.ok.0, c.len.ensures, c.if-domain-len.true)) c.index-mut-chosen.ensures.value);
+      value = c.leave.ensures.value ∙ ap (λ (x : BacklogView). oldest c.args.bank c.args.kind x.queue) (getD_viewed backlog_view (λ x. x) v.items c.args.domain no_backlog _ (omega (arith, v.ok.0, c.len.ensures, c.if-domain-len.true)) c.index_mut-chosen.ensures.value);
       after = ap (λ (l : List BacklogView). record { backlogs = l; payloads = c.args.self.now.payloads.items })
-          (viewed backlog_view (unqueued c.args.bank c.args.kind) v.items c.args.domain _ c.leave.new.self (omega (arith, v.ok.0, c.len.ensures, c.if-domain-len.true)) c.index-mut-chosen.ensures.value c.leave.ensures.after);
+          (viewed backlog_view (unqueued c.args.bank c.args.kind) v.items c.args.domain _ c.leave.new.self (omega (arith, v.ok.0, c.len.ensures, c.if-domain-len.true)) c.index_mut-chosen.ensures.value c.leave.ensures.after);
     }
 
 pub returns-else-domain-len : goal.returns-else-domain-len

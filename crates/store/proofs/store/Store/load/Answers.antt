@@ -18,11 +18,11 @@ loop-request-preserved c =
     let i = c.loop-request.request-index in
     let q = get_or qs i no_request in
     let s = store_view c.loop-request.self in (
-      ap (all_loaded (drop (i + 1) qs)) c.load-one-written.ensures.after
+      ap (all_loaded (drop (i + 1) qs)) c.load_one-written.ensures.after
           ∙ sym (loaded_front c.args.tick qs i no_request s c.loop-request-test.true)
           ∙ c.loop-request.invariant.0,
-      ap (λ (x : StoreView). wrote_all (load_lines c.args.tick (drop (i + 1) qs) x) (page c.load-one-written.new.lines c.load-one-written.result)) c.load-one-written.ensures.after
-          ∙ ap (wrote_all (load_lines c.args.tick (drop (i + 1) qs) (loaded q s))) c.load-one-written.ensures.lines
+      ap (λ (x : StoreView). wrote_all (load_lines c.args.tick (drop (i + 1) qs) x) (page c.load_one-written.new.lines c.load_one-written.result)) c.load_one-written.ensures.after
+          ∙ ap (wrote_all (load_lines c.args.tick (drop (i + 1) qs) (loaded q s))) c.load_one-written.ensures.lines
           ∙ ap (λ (ls : List Line). wrote_all ls (page c.loop-request.lines c.loop-request.written)) (sym (lines_front c.args.tick qs i no_request s c.loop-request-test.true))
           ∙ c.loop-request.invariant.1,
     )
