@@ -6,7 +6,6 @@ ghost use Rattle.scheduler.specs.Fresh.{untouched};
 
 use board::board::Board;
 use board::departures::Departures;
-use interface::Controller;
 use store::store::Store;
 
 mod calls;
@@ -19,7 +18,7 @@ mod ticks;
 // What is set and which slots are held lies on the board; rows, serials and the mark of a fake lie in the store, which is
 // never in sight where a request is handed to the controller.
 #[derive(Drop)]
-pub struct Scheduler<C: Controller> {
+pub struct Scheduler<C> {
     controller: C,
     board: Board,
     store: Store,

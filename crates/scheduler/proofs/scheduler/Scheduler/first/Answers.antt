@@ -21,23 +21,23 @@ returns-then-self g c =
       after = late_after m.meaning s.begun (settings_of b) x (first c.args.number) c.if-self.true;
     }
 
-pub invariant-of-self : goal.invariant-of-self
-invariant-of-self g c =
+pub invariant_of-self : goal.invariant_of-self
+invariant_of-self g c =
     let m = g.C.Controller in
     let s = c.args.self.now in
     let b = board_view s.board in
-    (fresh_kept s.begun b (board_view c.set-first.new.self) (store_view s.store) (m.meaning.places (m.state s.controller)) (first c.args.number) c.if-self.false (c.set-first.ensures.after (m.meaning.places (m.state s.controller))) s.fresh, tt)
+    record { fresh = fresh_kept s.begun b (board_view c.set_first.new.self) (store_view s.store) (m.meaning.places (m.state s.controller)) (first c.args.number) c.if-self.false (c.set_first.ensures.after (m.meaning.places (m.state s.controller))) s.fresh }
 
 pub returns : goal.returns
 returns g c =
     let m = g.C.Controller in
     let s = c.args.self.now in
     let b = board_view s.board in
-    let v = board_view c.set-first.new.self in
+    let v = board_view c.set_first.new.self in
     let x = running_of s.tick (m.state s.controller) b (store_view s.store) in
     let y = running_of s.tick (m.state s.controller) v (store_view s.store) in
     let places = m.meaning.places (m.state s.controller) in
     record {
-      answer = set_reply m.meaning b v x y (first c.args.number) places (refusals.refused c.set-first.result) (refl) (c.set-first.ensures.answer (m.meaning.places (m.state s.controller))) (c.set-first.ensures.after (m.meaning.places (m.state s.controller))) refl (λ e. first_settled b c.args.number) s.begun c.if-self.false;
-      after = set_after m.meaning b v x y (first c.args.number) places (refusals.refused c.set-first.result) (refl) (c.set-first.ensures.answer (m.meaning.places (m.state s.controller))) (c.set-first.ensures.after (m.meaning.places (m.state s.controller))) refl (λ e. first_settled b c.args.number) s.begun c.if-self.false;
+      answer = set_reply m.meaning b v x y (first c.args.number) places (refusals.refused c.set_first.result) (refl) (c.set_first.ensures.answer (m.meaning.places (m.state s.controller))) (c.set_first.ensures.after (m.meaning.places (m.state s.controller))) refl (λ e. first_settled b c.args.number) s.begun c.if-self.false;
+      after = set_after m.meaning b v x y (first c.args.number) places (refusals.refused c.set_first.result) (refl) (c.set_first.ensures.answer (m.meaning.places (m.state s.controller))) (c.set_first.ensures.after (m.meaning.places (m.state s.controller))) refl (λ e. first_settled b c.args.number) s.begun c.if-self.false;
     }

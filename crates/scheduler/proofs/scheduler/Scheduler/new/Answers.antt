@@ -6,11 +6,11 @@ use Rattle.store.specs.Stores.{store_view}
 use Rattle.scheduler.proofs.Begins.{fresh_new, blank_is}
 use Rattle.scheduler.proofs.scheduler.Scheduler.new.Goals as goal
 
-pub invariant-of-result : goal.invariant-of-result
-invariant-of-result g c = (fresh_new (board_view c.in-ok-board.board) (store_view c.in-ok-store.store) c.in-ok-board.ensures c.in-ok-store.ensures, tt)
+pub invariant_of-result : goal.invariant_of-result
+invariant_of-result g c = record { fresh = fresh_new (board_view c.in_ok-board.board) (store_view c.in_ok-store.store) c.in_ok-board.ensures c.in_ok-store.ensures }
 
 pub returns : goal.returns
 returns g c =
     let m = g.C.Controller in
-    ap (λ (k : Settings). setting k (m.state c.restarted.result)) (blank_is (board_view c.in-ok-board.board) c.in-ok-board.ensures)
+    ap (λ (k : Settings). setting k (m.state c.restarted.result)) (blank_is (board_view c.in_ok-board.board) c.in_ok-board.ensures)
     ∙ ap (setting blank) c.restarted.ensures

@@ -21,12 +21,12 @@ returns-then-self g c =
       after = late_after m.meaning s.begun (settings_of b) x (opens c.args.domain c.args.share) c.if-self.true;
     }
 
-pub invariant-of-self : goal.invariant-of-self
-invariant-of-self g c =
+pub invariant_of-self : goal.invariant_of-self
+invariant_of-self g c =
     let m = g.C.Controller in
     let s = c.args.self.now in
     let b = board_view s.board in
-    (fresh_kept s.begun b (board_view c.open_domain.new.board) (store_view s.store) (m.meaning.places (m.state s.controller)) (opens c.args.domain c.args.share) c.if-self.false c.open_domain.ensures.after s.fresh, tt)
+    record { fresh = fresh_kept s.begun b (board_view c.open_domain.new.board) (store_view s.store) (m.meaning.places (m.state s.controller)) (opens c.args.domain c.args.share) c.if-self.false c.open_domain.ensures.after s.fresh }
 
 pub returns : goal.returns
 returns g c =

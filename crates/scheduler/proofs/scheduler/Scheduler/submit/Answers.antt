@@ -30,19 +30,19 @@ returns-in-Some g c =
       after = refused_after b t s.board.used ok s.tick (m.state s.controller) c.args.domain c.args.bank c.args.kind c.args.row m.meaning s.begun c.if-not-self.false _ c.in-Some.ensures;
     }
 
-pub returns-in-Some-slot-in-turn : goal.returns-in-Some-slot-in-turn
-returns-in-Some-slot-in-turn g c =
+pub returns-in-Some-slot_in_turn : goal.returns-in-Some-slot_in_turn
+returns-in-Some-slot_in_turn g c =
     let m = g.C.Controller in
     let s = c.args.self.now in
     let b = board_view s.board in
     let t = store_view s.store in
     let ok = sound s.board s.store in
     let i = c.serial-serial.result in
-    let turn = c.in-Some-slot-in-turn.ensures.value ∙ ap (λ j. turn_of c.args.domain j (get_or b.shares c.args.domain None)) c.serial-serial.ensures in
+    let turn = c.in-Some-slot_in_turn.ensures.value ∙ ap (λ j. turn_of c.args.domain j (get_or b.shares c.args.domain None)) c.serial-serial.ensures in
     record {
-      answer = serial_is b t s.board.used ok s.tick (m.state s.controller) c.args.domain c.args.bank c.args.kind c.args.row m.meaning s.begun c.if-not-self.false c.in-default.ensures i c.serial-serial.ensures;
-      after = sent_after b t s.board.used ok s.tick (m.state s.controller) c.args.domain c.args.bank c.args.kind c.args.row m.meaning s.begun c.if-not-self.false c.in-default.ensures
-          c.in-Some-slot-in-turn.slot (m.state c.send.new.controller) (board_view c.send.new.board) (store_view c.carry.new.self) (store_view c.count.new.self) i c.serial-serial.ensures turn
+      answer = serial_is b t s.board.used ok s.tick (m.state s.controller) c.args.domain c.args.bank c.args.kind c.args.row m.meaning s.begun c.if-not-self.false c.in_default.ensures i c.serial-serial.ensures;
+      after = sent_after b t s.board.used ok s.tick (m.state s.controller) c.args.domain c.args.bank c.args.kind c.args.row m.meaning s.begun c.if-not-self.false c.in_default.ensures
+          c.in-Some-slot_in_turn.slot (m.state c.send.new.controller) (board_view c.send.new.board) (store_view c.carry.new.self) (store_view c.count.new.self) i c.serial-serial.ensures turn
           c.send.ensures.board c.send.ensures.controller c.carry.ensures c.count.ensures;
     }
 
@@ -56,7 +56,7 @@ returns-in-None g c =
     let i = c.serial-serial.result in
     let turn = c.in-None.ensures.value ∙ ap (λ j. turn_of c.args.domain j (get_or b.shares c.args.domain None)) c.serial-serial.ensures in
     record {
-      answer = serial_is b t s.board.used ok s.tick (m.state s.controller) c.args.domain c.args.bank c.args.kind c.args.row m.meaning s.begun c.if-not-self.false c.in-default.ensures i c.serial-serial.ensures;
-      after = joined_after b t s.board.used ok s.tick (m.state s.controller) c.args.domain c.args.bank c.args.kind c.args.row m.meaning s.begun c.if-not-self.false c.in-default.ensures
+      answer = serial_is b t s.board.used ok s.tick (m.state s.controller) c.args.domain c.args.bank c.args.kind c.args.row m.meaning s.begun c.if-not-self.false c.in_default.ensures i c.serial-serial.ensures;
+      after = joined_after b t s.board.used ok s.tick (m.state s.controller) c.args.domain c.args.bank c.args.kind c.args.row m.meaning s.begun c.if-not-self.false c.in_default.ensures
           (store_view c.join.new.self) turn c.join.ensures;
     }

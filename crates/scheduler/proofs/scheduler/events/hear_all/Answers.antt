@@ -25,8 +25,8 @@ loop-event-preserved g c =
     let v = store_view c.args.store.now in (
       turn_emptied m.meaning l s t e some went ∙ c.loop-event.invariant.0,
       heard_turn n e es fs b b' v front c.apply.ensures ∙ c.loop-event.invariant.1,
-      lines_turn n e es fs b b' v front c.apply.ensures (page c.loop-event.lines c.loop-event.written) (page c.write-line-written.new.lines c.write-line-written.result) c.write-line-written.ensures ∙ c.loop-event.invariant.2,
-      notices_turn n e es fs b b' v front c.apply.ensures (page c.loop-event.notices c.loop-event.told) (page c.write-notice-told.new.notices c.write-notice-told.result) c.write-notice-told.ensures ∙ c.loop-event.invariant.3,
+      lines_turn n e es fs b b' v front c.apply.ensures (page c.loop-event.lines c.loop-event.written) (page c.write_line-written.new.lines c.write_line-written.result) c.write_line-written.ensures ∙ c.loop-event.invariant.2,
+      notices_turn n e es fs b b' v front c.apply.ensures (page c.loop-event.notices c.loop-event.told) (page c.write_notice-told.new.notices c.write_notice-told.result) c.write_notice-told.ensures ∙ c.loop-event.invariant.3,
     )
 
 pub returns : goal.returns
@@ -34,7 +34,7 @@ returns g c =
     let m = g.C.Controller in
     let s = m.state c.loop-event.controller in
     let t = m.state c.collect.new.self in
-    let none = c.in-default.ensures.answer in
+    let none = c.in_default.ensures.answer in
     let es = m.meaning.ready s in
     let empty = first_none es none in
     let n = c.args.tick in
