@@ -60,7 +60,7 @@ impl Day {
 // The error where a call that has to be accepted is refused.
 fn refused(rt: &HostRuntime, call: &str, refusal: Refusal) -> Result<anyhow::Error, AllocError> {
     let number = refusal.number();
-    Ok(format!(in rt.alloc(); "{call} is refused with {number}")?.into())
+    Ok(anyhow!(format!(in rt.alloc(); "{call} is refused with {number}")?))
 }
 
 // Makes a setting call or begin, which has to be accepted.
