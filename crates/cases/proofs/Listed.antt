@@ -9,7 +9,7 @@ use Rattle.interface.specs.declared.Event.{Event}
 use Rattle.patterns.specs.Due.{next_start, round_end}
 use Rattle.model.specs.Calls.{Call, ticks, Running, State, setting, running, next_tick, tick_refusal, ticked, unless, tick_outcome, outcome}
 use Rattle.model.specs.Settings.{Settings, Vertex, is_open, domain_of, lane_of, pattern_at, vertices}
-use Rattle.model.specs.Ticks.{Stage, still, flying, done, Tables, put, through, completed, finished, done_in, lane_end, renewed, rounds, leaves, leaving, without, departed, step_events, after_events, after_rounds, departures, after_tick}
+use Rattle.model.specs.Ticks.{still, Tables, put, through, completed, finished, done_in, lane_end, renewed, rounds, leaves, without, departed, step_events, after_events, after_rounds, departures, after_tick}
 use Rattle.run_laws.proofs.Departures.{leaving_leave}
 use Rattle.run_laws.specs.Runs.{Entry, trace}
 

@@ -11,7 +11,7 @@ use Rattle.interface.specs.declared.Kind.TheVariants.{Read, Write}
 use Rattle.interface.proofs.Bools.{and_parts}
 use Rattle.first_come.specs.declared.gaps.Gaps.{Gaps}
 use Rattle.first_come.specs.Gaps.{gap, bank_gap, greatest_gap, no_gaps, gaps_passed, wait_of, bank_wait, allows, with_issue}
-use Rattle.first_come.specs.Laws.{gap_between, Kept}
+use Rattle.first_come.specs.Laws.{Kept}
 
 -- ---- the steps from which each kind and each bank is free
 

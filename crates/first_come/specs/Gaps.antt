@@ -1,5 +1,5 @@
 -- The least steps between issues, and the countdowns by which they are kept.
-use Rattle.std.specs.Prelude.{ℕ, ◌-◌, ◌%◌, max, Bool, ◌&&◌, List, [], ◌∷◌, map, ◌==◌, slice_index, slice_set}
+use Rattle.std.specs.Prelude.{ℕ, ◌-◌, ◌%◌, max, Bool, ◌&&◌, [], ◌∷◌, map, ◌==◌, slice_index, slice_set}
 use Rattle.interface.specs.declared.Kind.{Kind}
 use Rattle.interface.specs.declared.Kind.TheVariants.{Read, Write}
 use Rattle.interface.specs.declared.Request.{Request}

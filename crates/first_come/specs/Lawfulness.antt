@@ -1,9 +1,9 @@
 -- First-come keeps the laws of the interface.
-use Rattle.std.specs.Prelude.{◌≡◌, ℕ, suc, ◌+◌, ◌-◌, ◌<◌, ◌≤◌, Bool, true, false, cond, leb, ◌≢◌, List, [], ◌∷◌, ◌++◌, map, length, Some, None, Option, nat_le, refl}
+use Rattle.std.specs.Prelude.{◌≡◌, ℕ, ◌+◌, ◌-◌, ◌<◌, ◌≤◌, Bool, true, false, cond, leb, ◌≢◌, List, [], ◌∷◌, ◌++◌, map, length, Some, None, Option, nat_le, refl}
 use Rattle.std.proofs.Common.{sym, ap, ◌∙◌, subst, inl, inr, arith, lit≤, length-append, le-leb}
 use Rattle.std.proofs.lemmas.List.{length-map}
 use Rattle.std.proofs.lemmas.Bool.{both_ways}
-use Rattle.interface.specs.Meaning.{Meaning, Reached, first, rest, take_refusal}
+use Rattle.interface.specs.Meaning.{Reached, first, take_refusal}
 use Rattle.interface.specs.Lawful.{Lawful}
 use Rattle.interface.specs.declared.Request.{Request}
 use Rattle.interface.specs.declared.Event.{Event}
@@ -15,13 +15,13 @@ use Rattle.interface.proofs.Slots.{Apart, apart_append, apart_dropped, length_dr
 use Rattle.held.specs.declared.entries.Stage.{Stage}
 use Rattle.held.specs.declared.entries.Stage.TheVariants.{Waiting, Issued}
 use Rattle.held.specs.declared.entries.Entry.{Entry}
-use Rattle.held.specs.Entries.{later, longest_delay, key, dones, anyone, next_of, issue_next, reading_of, new_entry}
+use Rattle.held.specs.Entries.{later, key, dones, anyone, next_of, reading_of, new_entry}
 use Rattle.held.specs.Rows.{Rows, passed, issue_of, issue_oldest, first_out}
 use Rattle.held.proofs.Stepping.{Stepped, Ample, apart_later, apart_issued, length_issued, length_dones, stepped_held, stepped_proper, stepped_punctual}
-use Rattle.held.proofs.Spans.{times, times_more, Timely, timely_later, timely_append, timely_dropped, timely_none, timely_issued}
+use Rattle.held.proofs.Spans.{times_more, Timely, timely_later, timely_append, timely_dropped, timely_none, timely_issued}
 use Rattle.first_come.specs.declared.gaps.Gaps.{Gaps}
-use Rattle.first_come.specs.Gaps.{greatest_gap, no_gaps, gaps_passed, allows, with_issue}
-use Rattle.first_come.specs.State.{State, first_come_span, beginning, elapsed, issue_if, issue, state_meaning, state_codes, state_of, state_back, first_come_meaning}
+use Rattle.first_come.specs.Gaps.{greatest_gap, gaps_passed, allows, with_issue}
+use Rattle.first_come.specs.State.{State, first_come_span, elapsed, issue_if, issue, state_meaning, state_codes, state_of, state_back, first_come_meaning}
 use Rattle.first_come.specs.Gapping.{Within, within_start, within_more, within_pass, within_issue, within_allowed}
 
 -- ---- what holds of every state that calls lead to

@@ -1,5 +1,5 @@
 -- What the first-come controller means.
-use Rattle.std.specs.Prelude.{◌≡◌, ℕ, Bool, cond, List, [], ◌∷◌, Some, None, Option, refl}
+use Rattle.std.specs.Prelude.{◌≡◌, ℕ, cond, List, [], Some, None, Option, refl}
 use Rattle.std.proofs.Common.{ap}
 use Rattle.interface.specs.Meaning.{Meaning}
 use Rattle.interface.specs.Coded.{coded}

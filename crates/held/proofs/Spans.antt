@@ -1,14 +1,14 @@
 -- The span. In a class of requests the next is issued within some steps, and each further one within a period more;
 -- each is done within the longest delay after its issue.
-use Rattle.std.proofs.Common.{◌≡◌, ℕ, zero, suc, ◌+◌, ◌-◌, ◌*◌, ◌<◌, ◌≤◌, Bool, true, false, cond, ◌&&◌, ◌⊎◌, List, [], ◌∷◌, ◌++◌, map, length, Some, None, Option, sym, refl, ap, ◌∙◌, subst, inl, inr, ⊎_elim, arith}
+use Rattle.std.proofs.Common.{◌≡◌, ℕ, zero, suc, ◌+◌, ◌-◌, ◌≤◌, Bool, true, false, cond, ◌&&◌, List, [], ◌∷◌, ◌++◌, map, length, Some, None, Option, sym, refl, ap, ◌∙◌, subst, ⊎_elim, arith}
 use borrow.Author.Tests.{both_ways}
 use Rattle.interface.specs.Slots.{dropped}
 use Rattle.interface.specs.declared.Request.{Request}
 use Rattle.held.specs.declared.entries.Stage.{Stage}
 use Rattle.held.specs.declared.entries.Stage.TheVariants.{Waiting, Issued}
 use Rattle.held.specs.declared.entries.Entry.{Entry}
-use Rattle.held.specs.Entries.{later, sooner, issued_now, done_delay, longest_delay, key, has, candidate, next_of, issue_next, new_entry}
-use Rattle.held.proofs.Stepping.{delay_most, at_head, no_next, Ample, Enough}
+use Rattle.held.specs.Entries.{later, sooner, issued_now, longest_delay, key, has, next_of, issue_next, new_entry}
+use Rattle.held.proofs.Stepping.{delay_most, at_head, no_next, Enough}
 
 abbrev pub Asked : Bool → Type 0 → Type 0
 Asked true A = A

@@ -1,21 +1,21 @@
 -- What a step does to the held requests, whichever class of them is asked for one to issue.
-use Rattle.std.proofs.Common.{◌≡◌, ℕ, zero, suc, ◌+◌, ◌-◌, ◌*◌, ◌<◌, ◌≤◌, Bool, true, false, cond, ◌&&◌, ◌||◌, eqb, ◌⊎◌, List, [], ◌∷◌, ◌++◌, map, length, get_or, set, Some, None, Option, sym, refl, ap, ◌∙◌, subst, inl, inr, ⊎_elim, append-nil, arith, lit≤, eq-eqb, ne_eqb, eqb-true}
+use Rattle.std.proofs.Common.{◌≡◌, ℕ, suc, ◌<◌, ◌≤◌, Bool, true, false, cond, ◌&&◌, ◌||◌, eqb, ◌⊎◌, List, [], ◌∷◌, ◌++◌, map, length, get_or, set, Some, None, Option, sym, refl, ap, ◌∙◌, subst, inl, inr, ⊎_elim, append-nil, arith, lit≤, eq-eqb, ne_eqb, eqb-true}
 use borrow.Author.Tests.{both_ways, eqb-false}
 use Rattle.interface.specs.Meaning.{Held, any}
 use Rattle.interface.specs.Lawful.{issues, ends, aged, Standing, standing, events_of, Proper, Punctual}
-use Rattle.interface.specs.Slots.{place, has_in, dropped, dones_of, failing}
+use Rattle.interface.specs.Slots.{place}
 use Rattle.interface.specs.declared.Request.{Request}
 use Rattle.interface.specs.declared.Kind.{Kind}
 use Rattle.interface.specs.declared.Kind.TheVariants.{Read, Write}
 use Rattle.interface.specs.declared.Event.{Event}
 use Rattle.interface.specs.declared.Event.TheVariants.{Issue, Done}
-use Rattle.interface.proofs.Bools.{or_false, or_both, or_right, or_left, or_true, and_parts, same}
+use Rattle.interface.proofs.Bools.{or_false, or_right, or_left, or_true, same}
 use Rattle.interface.proofs.Slots.{Apart, some_map, apart_map, some_self, events_of_none, events_of_skip, events_of_append, issues_none, proper_none, done_more, ends_before}
 use Rattle.held.specs.declared.entries.Stage.{Stage}
 use Rattle.held.specs.declared.entries.Stage.TheVariants.{Waiting, Issued}
 use Rattle.held.specs.declared.entries.Entry.{Entry}
 use Rattle.held.specs.Rows.{Rows}
-use Rattle.held.specs.Entries.{later, sooner, is_waiting, waiting_stage, expired, expired_stage, issued_now, done_delay, longest_delay, key, has, dones, candidate, next_of, issue_next, issued_stage, is_issued, reading_of, new_entry}
+use Rattle.held.specs.Entries.{later, sooner, expired, expired_stage, issued_now, done_delay, longest_delay, key, has, dones, candidate, next_of, issue_next, issued_stage, reading_of}
 
 -- a table with other entries
 abbrev pub with_entries : Rows → List Entry → Rows

@@ -1,5 +1,5 @@
 -- What a table holds, and what its calls do to that.
-use Rattle.std.specs.Prelude.{◌≡◌, ℕ, Bool, cond, not, List, [], ◌∷◌, ◌++◌, map, length, Some, None, vec_items, Option, nat_le, refl}
+use Rattle.std.specs.Prelude.{ℕ, Bool, cond, not, List, [], ◌∷◌, ◌++◌, map, length, Some, None, vec_items, Option, nat_le, refl}
 use Rattle.interface.specs.Meaning.{Meaning, first, rest, is_empty, check}
 use Rattle.interface.specs.Slots.{dropped, dropped_by}
 use Rattle.interface.specs.Codec.{Codec, event_codec, many, both, via}

@@ -1,5 +1,5 @@
 -- The laws of a controller over any type of states hold over the lists that stand for them.
-use Rattle.std.proofs.Common.{◌≡◌, ℕ, Bool, true, false, cond, List, [], ◌∷◌, ◌++◌, Some, None, Option, sym, refl, ap, ◌∙◌, subst}
+use Rattle.std.proofs.Common.{◌≡◌, ℕ, Bool, true, false, cond, List, [], ◌∷◌, Some, None, Option, sym, refl, ap, ◌∙◌}
 use Rattle.interface.specs.Meaning.{Meaning, Call, after, run, Reached, accepted, take_refusal, step_refusal, is_empty, first}
 use Rattle.interface.specs.Lawful.{Lawful}
 use Rattle.interface.specs.Coded.{coded}

@@ -1,7 +1,7 @@
 -- Histories that grow by a taking, by a step without an issue, and by a step with one.
-use Rattle.std.proofs.Common.{◌≡◌, ℕ, suc, ◌+◌, ◌<◌, ◌≤◌, ◌⊎◌, List, [], ◌∷◌, ◌++◌, sym, refl, ap, ◌∙◌, subst, ⊎_elim, eq-or-lt_of_le, arith}
+use Rattle.std.proofs.Common.{◌≡◌, ℕ, ◌+◌, ◌<◌, ◌≤◌, List, [], ◌∷◌, ◌++◌, sym, refl, ap, ◌∙◌, subst, ⊎_elim, eq-or-lt_of_le, arith}
 use Rattle.interface.specs.declared.Request.{Request}
-use Rattle.interface.specs.History.{Taking, Occurrence, Issuance, First, Served, issuances}
+use Rattle.interface.specs.History.{Taking, Occurrence, Issuance, Served, issuances}
 
 -- the takings that still wait
 abbrev pub pending : List Taking → List Occurrence → List Taking

@@ -1,13 +1,13 @@
 -- Lists of things that each have a slot.
-use Rattle.std.proofs.Common.{◌≡◌, ℕ, zero, suc, ◌+◌, ◌<◌, ◌≤◌, Bool, true, false, cond, ◌&&◌, ◌||◌, eqb, ltb, List, [], ◌∷◌, ◌++◌, map, length, get_or, take, drop, set, Some, None, Option, sym, refl, ap, ◌∙◌, subst, append_assoc, append-nil, add-one, arith, drop-cons, ltb-false, ltb-true, le-ltb, lt-ltb, eq-eqb, ne_eqb, eqb-true}
-use borrow.Author.Tests.{both_ways, eqb-false}
+use Rattle.std.proofs.Common.{◌≡◌, ℕ, zero, suc, ◌+◌, ◌<◌, ◌≤◌, Bool, true, false, cond, ◌&&◌, ◌||◌, eqb, ltb, List, [], ◌∷◌, ◌++◌, map, length, get_or, drop, Some, None, Option, sym, refl, ap, ◌∙◌, subst, append_assoc, append-nil, add-one, arith, drop-cons, ltb-false, ltb-true, le-ltb, lt-ltb, ne_eqb, eqb-true}
+use borrow.Author.Tests.{both_ways}
 use Rattle.std.specs.List.{remove}
 use Rattle.interface.specs.Meaning.{Held, first, rest, any, has_slot}
 use Rattle.interface.specs.Lawful.{issues, ends, without, ended, Standing, standing, slot_of, events_of, Proper}
 use Rattle.interface.specs.Slots.{place, has_in, dropped, dropped_by, dones_of, failing}
 use Rattle.interface.specs.declared.Event.{Event}
 use Rattle.interface.specs.declared.Event.TheVariants.{Issue, Done}
-use Rattle.interface.proofs.Bools.{or_false, or_both, or_left, or_true, eqb_comm, same, and_left}
+use Rattle.interface.proofs.Bools.{or_false, or_both, or_left, or_true, eqb_comm, same}
 
 -- ---- places
 

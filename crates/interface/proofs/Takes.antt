@@ -1,8 +1,8 @@
 -- What an accepted take or step says.
-use Rattle.std.proofs.Common.{◌≡◌, ℕ, ◌<◌, ◌≤◌, Bool, true, false, cond, not, ◌&&◌, ltb, leb, List, [], ◌∷◌, length, Some, None, Option, refl, ap, ◌∙◌, arith, lt-ltb, le-leb, leb-false}
+use Rattle.std.proofs.Common.{◌≡◌, ℕ, ◌<◌, ◌≤◌, Bool, true, false, not, ◌&&◌, ltb, leb, List, [], ◌∷◌, length, Some, None, refl, ap, ◌∙◌, arith, lt-ltb, le-leb, leb-false}
 use borrow.Author.Tests.{lt-leb}
 use Rattle.interface.specs.declared.Request.{Request}
-use Rattle.interface.specs.Meaning.{Meaning, take_refusal, step_refusal, check, in_range, any, has_slot, is_empty}
+use Rattle.interface.specs.Meaning.{Meaning, take_refusal, check, in_range, any, has_slot, is_empty}
 
 tests : (a b c : Bool) → check (not a) 17 (check b 18 (check c 19 None)) ≡ None → (a ≡ true) × (b ≡ false) × (c ≡ false)
 tests false b c e = let k : ◌≡◌ {A = ℕ} 0 1 = cc in absurd (omega arith)

@@ -1,5 +1,5 @@
 -- Invariants of a state together with its history.
-use Rattle.std.proofs.Common.{◌≡◌, ℕ, Bool, true, false, cond, List, [], ◌∷◌, ◌++◌, Some, None, Option, sym, refl, ap, ◌∙◌, subst}
+use Rattle.std.proofs.Common.{◌≡◌, ℕ, Bool, true, false, cond, List, [], ◌∷◌, Some, None, Option, refl, ap, ◌∙◌}
 use Rattle.interface.specs.declared.Request.{Request}
 use Rattle.interface.specs.Meaning.{Meaning, Call, after, accepted, take_refusal, step_refusal, is_empty}
 use Rattle.interface.specs.Coded.{coded}

@@ -1,6 +1,6 @@
 -- Values as numbers at the front of a list.
 use Rattle.std.specs.Prelude.{◌≡◌, ℕ, zero, suc, Bool, true, false, List, [], ◌∷◌, length, refl}
-use Rattle.std.proofs.Common.{sym, ap, ◌∙◌}
+use Rattle.std.proofs.Common.{ap, ◌∙◌}
 use Rattle.interface.specs.Meaning.{rest}
 use Rattle.interface.specs.declared.Request.{Request}
 use Rattle.interface.specs.declared.Kind.{Kind}

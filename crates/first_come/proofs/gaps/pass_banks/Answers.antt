@@ -1,4 +1,4 @@
-use Rattle.std.proofs.Common.{◌≡◌, ◌-◌, ◌<◌, ◌≤◌, ◌++◌, map, length, take, drop, ap, ◌∙◌, arith}
+use Rattle.std.proofs.Common.{◌-◌, ◌<◌, ◌≤◌, length, ◌∙◌, arith}
 use Rattle.interface.proofs.Loops.{map_turn, map_done, map_long}
 use Rattle.first_come.proofs.gaps.pass_banks.Goals as goal
 

@@ -1,6 +1,5 @@
 use Rattle.std.proofs.Common.{sym, ◌∙◌, arith}
 use Rattle.held.specs.Entries.{has}
-use Rattle.interface.specs.Slots.{place}
 use Rattle.interface.proofs.Slots.{place_here, place_next, place_drop_all}
 use Rattle.held.proofs.entries.find.Goals as goal
 

@@ -1,5 +1,4 @@
 use Rattle.std.proofs.Common.{sym, ◌∙◌, arith}
-use Rattle.interface.specs.Slots.{place}
 use Rattle.held.specs.Entries.{candidate, admits}
 use Rattle.interface.proofs.Slots.{place_here, place_next, place_drop_all}
 use Rattle.held.proofs.entries.find_oldest.Goals as goal

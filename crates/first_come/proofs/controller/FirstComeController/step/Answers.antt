@@ -1,6 +1,6 @@
 use Rattle.std.proofs.Common.{◌≡◌, Some, None, sym, ap, ◌∙◌}
 use Rattle.std.proofs.lemmas.Result.{err_from_is_err_and}
-use Rattle.interface.specs.Meaning.{Call, accepted, refused, number, step_refusal}
+use Rattle.interface.specs.Meaning.{Call, accepted, refused, number}
 use Rattle.interface.proofs.Codes.{after_is, step_is}
 use Rattle.held.specs.Rows.{busy, passed}
 use Rattle.first_come.specs.State.{view, issue, elapsed, state_codes, state_of, state_back, state_meaning}

@@ -3,7 +3,7 @@ use Rattle.std.specs.List.{remove}
 use Rattle.interface.specs.Slots.{place}
 use Rattle.interface.proofs.Slots.{dropped_there, dropped_not}
 use Rattle.held.specs.Entries.{has, key}
-use Rattle.held.specs.Rows.{Rows, rows}
+use Rattle.held.specs.Rows.{rows}
 use Rattle.held.proofs.Stepping.{with_entries}
 use Rattle.held.proofs.tables.Table.end.Goals as goal
 

@@ -1,4 +1,4 @@
-use Rattle.std.proofs.Common.{◌≡◌, ltb, length, sym, refl, ap, ◌∙◌}
+use Rattle.std.proofs.Common.{◌≡◌, ltb, sym, refl, ap, ◌∙◌}
 use Rattle.interface.specs.Slots.{place}
 use Rattle.interface.proofs.Slots.{held_at, some_entries}
 use Rattle.held.specs.Entries.{has, key, reading_of}

@@ -1,7 +1,7 @@
-use Rattle.std.proofs.Common.{◌≡◌, ◌<◌, ◌≤◌, length, get_or, Some, None, sym, ap, ◌∙◌, arith}
+use Rattle.std.proofs.Common.{◌≡◌, ◌<◌, ◌≤◌, length, get_or, Some, sym, ap, ◌∙◌, arith}
 use Rattle.std.specs.Option.{option_map}
 use Rattle.interface.specs.Slots.{place}
-use Rattle.held.specs.Entries.{admits, candidate, next_of, request_of}
+use Rattle.held.specs.Entries.{admits, candidate, request_of}
 use Rattle.held.specs.Rows.{rows}
 use Rattle.held.proofs.Stepping.{next_there, next_not}
 use Rattle.held.proofs.tables.Table.oldest.Goals as goal

@@ -1,9 +1,9 @@
-use Rattle.std.proofs.Common.{◌≡◌, ℕ, ◌<◌, ◌≤◌, Bool, true, false, not, List, [], ◌∷◌, ◌++◌, map, length, vec_items, vec_len, sym, refl, ap, ◌∙◌, arith, leb-false, leb-true}
+use Rattle.std.proofs.Common.{◌<◌, ◌≤◌, [], ◌∷◌, ◌++◌, vec_len, sym, ap, ◌∙◌, arith, leb-false, leb-true}
 use lib.ListN.{length-map}
-use Rattle.interface.specs.Meaning.{accepted, in_range}
+use Rattle.interface.specs.Meaning.{accepted}
 use Rattle.interface.proofs.Takes.{take_full, take_fine}
 use Rattle.held.specs.Entries.{reading_of}
-use Rattle.held.specs.Rows.{Rows, rows, table_meaning, with_request}
+use Rattle.held.specs.Rows.{rows, table_meaning}
 use Rattle.held.proofs.Stepping.{with_entries}
 use Rattle.held.proofs.tables.Table.take.Goals as goal
 

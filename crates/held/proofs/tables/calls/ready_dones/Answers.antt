@@ -1,4 +1,4 @@
-use Rattle.std.proofs.Common.{◌≡◌, ◌+◌, ◌++◌, drop, vec_items, vec_len, vec_capacity, sym, ap, ◌∙◌, arith}
+use Rattle.std.proofs.Common.{◌+◌, ◌++◌, drop, vec_items, vec_len, vec_capacity, sym, ap, ◌∙◌, arith}
 use Rattle.held.specs.Entries.{dones, key, expired}
 use Rattle.interface.proofs.Slots.{dones_here, dones_not, dones_end}
 use Rattle.held.proofs.tables.calls.ready_dones.Goals as goal

@@ -1,4 +1,4 @@
-use Rattle.std.proofs.Common.{◌≡◌, ◌+◌, ◌≤◌, ◌++◌, take, drop, vec_items, vec_len, vec_capacity}
+use Rattle.std.proofs.Common.{◌≡◌, ◌+◌, ◌≤◌, ◌++◌, drop, vec_items, vec_len, vec_capacity}
 use Rattle.held.specs.Entries.{dones}
 use Rattle.held.proofs.tables.calls.ready_dones.Given as goal
 
