@@ -1,5 +1,5 @@
 -- Calls that a layer makes to a controller below, and what they leave in its history.
-use Rattle.std.proofs.Common.{◌≡◌, ℕ, cond, List, [], ◌∷◌, ◌++◌, refl, ap, ◌∙◌}
+use Rattle.std.proofs.Common.{◌≡◌, cond, List, [], ◌∷◌, ◌++◌, refl, ap, ◌∙◌}
 use Rattle.interface.specs.Meaning.{Meaning, Call, after, run, rest, is_empty}
 use Rattle.interface.specs.Lawful.{Lawful}
 use Rattle.interface.specs.History.{History, noted, traced}

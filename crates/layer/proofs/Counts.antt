@@ -2,7 +2,7 @@
 use Rattle.std.proofs.Common.{◌≡◌, ℕ, suc, ◌+◌, ◌≤◌, Bool, true, false, cond, ◌||◌, eqb, List, [], ◌∷◌, ◌++◌, length, sym, refl, ap, ◌∙◌, subst, append_assoc, append-nil, arith, length-append, lt-ltb, eqb-true}
 use Rattle.interface.specs.Meaning.{any}
 use Rattle.interface.specs.Lawful.{Standing, slot_of, events_of, Proper}
-use Rattle.interface.specs.Slots.{has_in, dones_of}
+use Rattle.interface.specs.Slots.{dones_of}
 use Rattle.interface.specs.declared.Event.{Event}
 use Rattle.interface.specs.declared.Event.TheVariants.{Issue, Done}
 use Rattle.interface.proofs.Bools.{or_false, same, eqb_comm}
@@ -12,7 +12,7 @@ use Rattle.layer.specs.declared.forward.Forward.{Forward}
 use Rattle.layer.specs.declared.forward.Forward.TheVariants.{Issues, All}
 use Rattle.layer.specs.Entries.{slot_of_entry}
 use Rattle.layer.specs.Forwards.{forwards, forwarded}
-use Rattle.layer.specs.Contents.{added, all_added}
+use Rattle.layer.specs.Contents.{all_added}
 use Rattle.layer.proofs.Receiving.{has, nobody, stage, EachProper, absent_none}
 
 -- ---- adding

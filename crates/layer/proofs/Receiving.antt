@@ -1,17 +1,17 @@
 -- What a layer receives in a step below: the events of each held request are proper, and other slots have none.
-use Rattle.std.proofs.Common.{◌≡◌, ℕ, ◌+◌, ◌-◌, ◌^◌, ◌<◌, ◌≤◌, min, Bool, true, false, cond, ◌&&◌, ◌||◌, eqb, leb, List, [], ◌∷◌, ◌++◌, map, sym, refl, ap, ◌∙◌, subst, arith, eqb-true, le-leb}
+use Rattle.std.proofs.Common.{◌≡◌, ℕ, Bool, true, false, cond, ◌||◌, eqb, List, [], ◌∷◌, ◌++◌, map, sym, refl, ap, ◌∙◌, subst, eqb-true}
 use borrow.Author.Tests.{both_ways}
-use Rattle.interface.specs.Meaning.{Held, any, has_slot}
-use Rattle.interface.specs.Lawful.{issues, ends, aged, Standing, standing, slot_of, events_of, Proper, Punctual}
+use Rattle.interface.specs.Meaning.{any}
+use Rattle.interface.specs.Lawful.{issues, ends, Standing, standing, slot_of, events_of, Proper}
 use Rattle.interface.specs.Slots.{has_in, dropped, failing}
 use Rattle.interface.specs.declared.Request.{Request}
 use Rattle.interface.specs.declared.Event.{Event}
 use Rattle.interface.specs.declared.Event.TheVariants.{Issue, Done}
-use Rattle.interface.proofs.Bools.{or_false, or_left, or_true, or_right, and_left, same}
+use Rattle.interface.proofs.Bools.{or_left, or_true, and_left, same}
 use Rattle.interface.proofs.Slots.{Apart, some_map, some_self, some_failing, standing_none, proper_none, events_of_none, events_of_skip, events_of_one}
 use Rattle.layer.specs.declared.entry.Entry.{Entry}
 use Rattle.layer.specs.declared.forward.Forward.{Forward}
-use Rattle.layer.specs.declared.forward.Forward.TheVariants.{Issues, All}
+use Rattle.layer.specs.declared.forward.Forward.TheVariants.{Issues}
 use Rattle.layer.specs.Entries.{new_entry, slot_of_entry, updated, advanced, is_due, reading}
 use Rattle.layer.specs.Forwards.{forwards, forwarded}
 use Rattle.layer.specs.Contents.{dones_due}

@@ -1,21 +1,21 @@
 -- A layer's table agrees with what a controller below holds.
-use Rattle.std.proofs.Common.{◌≡◌, ℕ, ◌+◌, ◌-◌, ◌^◌, ◌<◌, ◌≤◌, min, Bool, true, false, cond, not, ◌&&◌, ◌||◌, eqb, leb, List, [], ◌∷◌, ◌++◌, map, length, Some, None, Option, sym, refl, ap, ◌∙◌, subst, arith, le-leb}
+use Rattle.std.proofs.Common.{◌≡◌, ℕ, ◌-◌, ◌^◌, ◌<◌, ◌≤◌, min, Bool, true, false, cond, not, ◌&&◌, ◌||◌, leb, List, [], ◌∷◌, ◌++◌, map, length, Some, None, sym, refl, ap, ◌∙◌, subst, arith}
 use lib.ListN.{length-map}
 use borrow.Author.Tests.{both_ways}
-use Rattle.interface.specs.Meaning.{Meaning, Held, Call, first, rest, is_empty, any, has_slot, check, in_range, take_refusal, step_refusal, accepted, after, run, Reached}
-use Rattle.interface.specs.Lawful.{fresh, issues, ends, aged, without, ended, Standing, standing, events_of, Proper, Punctual, Lawful}
-use Rattle.interface.specs.Slots.{has_in, dropped, failing}
+use Rattle.interface.specs.Meaning.{Meaning, Held, Call, first, rest, is_empty, any, has_slot, check, in_range, take_refusal, accepted, after, run, Reached}
+use Rattle.interface.specs.Lawful.{fresh, issues, ends, aged, without, ended, standing, events_of, Proper, Punctual, Lawful}
+use Rattle.interface.specs.Slots.{dropped, failing}
 use Rattle.interface.specs.Emptied.{emptied}
 use Rattle.interface.specs.declared.Request.{Request}
 use Rattle.interface.specs.declared.Event.{Event}
 use Rattle.interface.specs.declared.Event.TheVariants.{Issue, Done}
-use Rattle.interface.proofs.Bools.{or_left, or_true, or_right, and_parts, eqb_comm, same}
-use Rattle.interface.proofs.Slots.{Apart, some_entries, some_failing, length_failing, failing_append, failing_dropped, map_append, marked, done_more}
+use Rattle.interface.proofs.Bools.{or_left, or_true, or_right, eqb_comm}
+use Rattle.interface.proofs.Slots.{Apart, some_entries, some_failing, length_failing, failing_append, failing_dropped, map_append, marked}
 use Rattle.interface.proofs.Takes.{take_fine}
 use Rattle.layer.specs.declared.entry.Entry.{Entry}
-use Rattle.layer.specs.Entries.{new_entry, slot_of_entry, done_below, is_due, reading}
-use Rattle.layer.specs.Contents.{Contents, admission, dones_due}
-use Rattle.layer.proofs.Receiving.{has, moved, away, nobody, EachProper, each_proper, others_none}
+use Rattle.layer.specs.Entries.{new_entry, slot_of_entry, done_below, reading}
+use Rattle.layer.specs.Contents.{Contents, admission}
+use Rattle.layer.proofs.Receiving.{has, moved, away, EachProper, each_proper, others_none}
 
 -- ---- calls that are not refused
 

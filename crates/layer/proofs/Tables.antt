@@ -1,16 +1,15 @@
 -- What the calls of a table do to its contents.
-use Rattle.std.proofs.Common.{◌≡◌, ℕ, Bool, true, false, cond, ◌||◌, ltb, List, [], ◌∷◌, ◌++◌, map, length, drop, sym, refl, ap, ◌∙◌, ltb-false, ltb-true}
+use Rattle.std.proofs.Common.{◌≡◌, ℕ, Bool, true, false, cond, ◌||◌, ltb, List, [], ◌∷◌, ◌++◌, map, length, sym, refl, ap, ◌∙◌, ltb-false, ltb-true}
 use Rattle.interface.specs.Meaning.{any, first, rest, is_empty}
 use Rattle.interface.specs.Lawful.{issues, ends}
 use Rattle.interface.specs.declared.Event.{Event}
-use Rattle.interface.specs.declared.Event.TheVariants.{Issue, Done}
 use Rattle.interface.proofs.Bools.{or_right, or_assoc}
 use Rattle.interface.proofs.Slots.{held_there, held_not, some_entries}
 use Rattle.interface.specs.Slots.{place, has_in, dropped_by}
 use borrow.Author.Tests.{both_ways}
 use Rattle.layer.specs.declared.entry.Entry.{Entry}
 use Rattle.layer.specs.declared.forward.Forward.{Forward}
-use Rattle.layer.specs.Entries.{updated, advanced, slot_of_entry, reading}
+use Rattle.layer.specs.Entries.{updated, slot_of_entry, reading}
 use Rattle.layer.specs.Forwards.{forwards, forwarded}
 use Rattle.layer.specs.Contents.{Contents, added, all_added, gathered, collected}
 

@@ -1,5 +1,5 @@
 -- What a table holds, and what its calls do.
-use Rattle.std.specs.Prelude.{◌≡◌, ℕ, min, Bool, true, false, cond, not, List, [], ◌∷◌, ◌++◌, map, length, Some, None, vec_items, Option, nat_le, nat_lt, refl}
+use Rattle.std.specs.Prelude.{ℕ, min, cond, not, List, [], ◌∷◌, ◌++◌, map, length, None, vec_items, Option, nat_le, nat_lt, refl}
 use Rattle.interface.specs.Meaning.{any, first, rest, check, in_range}
 use Rattle.interface.specs.Slots.{has_in, dropped, dropped_by, dones_of}
 use Rattle.interface.specs.Codec.{Codec, event_codec, both, many, via}

@@ -1,5 +1,5 @@
 -- The requests that a layer holds.
-use Rattle.std.specs.Prelude.{ℕ, ◌+◌, ◌-◌, ◌^◌, min, Bool, true, false, ◌&&◌, ◌||◌, List, [], ◌∷◌, nat_le, refl}
+use Rattle.std.specs.Prelude.{ℕ, ◌+◌, ◌-◌, ◌^◌, min, Bool, false, ◌&&◌, ◌||◌, List, nat_le, refl}
 use Rattle.interface.specs.Meaning.{Held, any}
 use Rattle.interface.specs.Lawful.{issues, ends}
 use Rattle.interface.specs.Codec.{Codec, number_codec, request_codec, bool_codec, both, via}

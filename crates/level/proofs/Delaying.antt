@@ -1,14 +1,14 @@
 -- Each Done of a level comes in the L-th step after its taking, or with the Done below.
-use Rattle.std.proofs.Common.{◌≡◌, ℕ, ◌+◌, ◌^◌, ◌<◌, ◌≤◌, min, Bool, true, false, cond, not, ◌&&◌, ◌||◌, eqb, leb, List, [], ◌∷◌, ◌++◌, map, Some, None, Option, sym, refl, ap, ◌∙◌, subst, append_assoc, append-nil, arith, eq-eqb, eqb-true}
-use borrow.Author.Tests.{both_ways, eqb-false}
+use Rattle.std.proofs.Common.{◌≡◌, ℕ, ◌+◌, ◌^◌, ◌<◌, ◌≤◌, Bool, true, false, cond, not, ◌&&◌, ◌||◌, eqb, leb, List, [], ◌∷◌, ◌++◌, map, Some, None, Option, sym, refl, ap, ◌∙◌, subst, append-nil, arith, eqb-true}
+use borrow.Author.Tests.{both_ways}
 use Rattle.interface.specs.Meaning.{Meaning, Call, after, run, accepted, is_empty, any, check, take_refusal, step_refusal}
 use Rattle.interface.specs.Lawful.{Lawful, ends, Standing, standing, slot_of, events_of, Proper}
-use Rattle.interface.specs.Slots.{dropped, dones_of}
+use Rattle.interface.specs.Slots.{dropped}
 use Rattle.interface.specs.History.{History, Taking, Occurrence, blank, issued_in, ended_in, with_taking, with_step, noted, traced, history}
 use Rattle.interface.specs.declared.Request.{Request}
 use Rattle.interface.specs.declared.Event.{Event}
 use Rattle.interface.specs.declared.Event.TheVariants.{Issue, Done}
-use Rattle.interface.proofs.Bools.{or_false, or_left, and_left, and_parts, same}
+use Rattle.interface.proofs.Bools.{or_false, or_left, and_parts, same}
 use Rattle.interface.proofs.Runs.{step_ok}
 use Rattle.interface.proofs.Slots.{Apart, apart_map, some_map, marked, marked_has, Traced, traced_dones, traced_append, ends_none, ends_append}
 use Rattle.interface.proofs.Traces.{history_coded}
@@ -16,7 +16,7 @@ use Rattle.layer.specs.declared.entry.Entry.{Entry}
 use Rattle.layer.specs.declared.forward.Forward.TheVariants.{Issues}
 use Rattle.layer.specs.Entries.{new_entry, slot_of_entry, is_due, reading}
 use Rattle.layer.specs.Forwards.{forwarded}
-use Rattle.layer.specs.Contents.{Contents, dones_due, collected}
+use Rattle.layer.specs.Contents.{dones_due, collected}
 use Rattle.layer.specs.Collects.{collects}
 use Rattle.layer.proofs.Tables.{any_append}
 use Rattle.layer.proofs.Receiving.{has, moved, nobody, stage, EachProper, absent_none, no_ends, is_done, ends_of, proper_all}
@@ -24,7 +24,7 @@ use Rattle.layer.proofs.Readiness.{Ready, ready_append, ready_issue, ready_dropp
 use Rattle.layer.proofs.Synced.{take_accepted}
 use Rattle.layer.proofs.Collecting.{traced_then, traced_collects, run_collects}
 use Rattle.level.specs.Level.{State, beginning, wait, meaning_over, level_codes, level_of, level_back}
-use Rattle.level.specs.Laws.{passed_down, calls_below, first_steps, steps_of, Delayed, Delays, Levels}
+use Rattle.level.specs.Laws.{passed_down, calls_below, first_steps, steps_of, Delays, Levels}
 use Rattle.level.specs.Lawfulness.{Good, traced_issues, good_start, good_take, good_collect, good_tidy, events_of_step, tidy, tidy_is, each_received, others, proper_tidy, fine}
 use Rattle.level.proofs.Endings.{Pending, Stands, at_step, stands_taken, stands_collected, stands_still, stands_stepped, stands_delayed}
 

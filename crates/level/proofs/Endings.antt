@@ -1,19 +1,14 @@
 -- The Dones of one slot over a history.
-use Rattle.std.proofs.Common.{◌≡◌, ℕ, ◌+◌, ◌-◌, ◌^◌, ◌<◌, ◌≤◌, min, max, Bool, true, false, cond, ◌&&◌, ◌||◌, eqb, leb, List, [], ◌∷◌, ◌++◌, map, Some, None, Option, sym, refl, ap, ◌∙◌, subst, append-nil, arith, eqb-true, le-leb, leb-false, leb-true}
-use borrow.Author.Tests.{both_ways, lt-leb}
+use Rattle.std.proofs.Common.{◌≡◌, ℕ, ◌+◌, ◌-◌, ◌^◌, ◌<◌, ◌≤◌, min, Bool, true, false, cond, ◌&&◌, ◌||◌, leb, List, [], ◌∷◌, ◌++◌, Some, None, Option, sym, refl, ap, ◌∙◌, subst, append-nil, arith, leb-false, leb-true}
+use borrow.Author.Tests.{both_ways}
 use Rattle.interface.specs.Meaning.{any}
-use Rattle.interface.specs.Lawful.{ends, Standing, slot_of, events_of, Proper}
-use Rattle.interface.specs.Slots.{has_in, dropped, dones_of}
-use Rattle.interface.specs.History.{Taking, Occurrence, ended_in}
+use Rattle.interface.specs.Lawful.{ends}
 use Rattle.interface.specs.declared.Request.{Request}
 use Rattle.interface.specs.declared.Event.{Event}
-use Rattle.interface.specs.declared.Event.TheVariants.{Issue, Done}
-use Rattle.interface.proofs.Bools.{or_false, same}
-use Rattle.interface.proofs.Slots.{Apart}
 use Rattle.layer.specs.declared.entry.Entry.{Entry}
-use Rattle.layer.specs.Entries.{new_entry, slot_of_entry, is_due, advanced, updated}
-use Rattle.layer.proofs.Receiving.{has, moved, absent_none}
-use Rattle.level.specs.Laws.{first_steps, steps_of, done_at, Delayed}
+use Rattle.layer.specs.Entries.{new_entry, is_due}
+use Rattle.layer.proofs.Receiving.{moved}
+use Rattle.level.specs.Laws.{done_at, Delayed}
 
 -- ---- all is done
 

@@ -1,8 +1,7 @@
 -- A level keeps the laws of the interface, if the controller below does.
-use Rattle.std.specs.Prelude.{◌≡◌, ℕ, ◌+◌, ◌-◌, ◌^◌, ◌<◌, ◌≤◌, max, Bool, true, false, cond, ◌&&◌, ◌||◌, List, [], ◌∷◌, ◌++◌, map, length, Some, None, Option, nat_le, refl}
+use Rattle.std.specs.Prelude.{◌≡◌, ℕ, ◌-◌, ◌^◌, ◌<◌, ◌≤◌, max, Bool, true, false, cond, ◌&&◌, ◌||◌, List, [], ◌∷◌, ◌++◌, map, length, Some, None, Option, nat_le, refl}
 use Rattle.std.proofs.Common.{sym, ap, ◌∙◌, subst, arith, length-append, le-leb}
 use Rattle.std.proofs.lemmas.List.{length-map}
-use Rattle.std.proofs.lemmas.Bool.{both_ways}
 use Rattle.interface.specs.Meaning.{Meaning, Call, after, Reached, first, is_empty, any, in_range, take_refusal, step_refusal, accepted}
 use Rattle.interface.specs.Lawful.{Lawful, issues, ends, aged, fresh, standing, events_of, Proper, Punctual}
 use Rattle.interface.specs.declared.Request.{Request}
@@ -17,12 +16,12 @@ use Rattle.layer.specs.declared.entry.Entry.{Entry}
 use Rattle.layer.specs.declared.forward.Forward.TheVariants.{Issues}
 use Rattle.layer.specs.Entries.{new_entry, slot_of_entry, done_below, updated, advanced, is_due, reading}
 use Rattle.layer.specs.Forwards.{forwarded}
-use Rattle.layer.specs.Contents.{Contents, all_added, dones_due, collected}
+use Rattle.layer.specs.Contents.{all_added, dones_due, collected}
 use Rattle.layer.proofs.Tables.{contents_path, map_fuse}
 use Rattle.layer.proofs.Receiving.{has, moved, nobody, EachProper, DoneIssued, done_issued_dropped, done_issued_append, done_issued_step, events_of_forwarded, proper_released}
 use Rattle.layer.proofs.Counts.{all_added_is, length_dones, few_issues}
 use Rattle.layer.proofs.Synced.{Synced, EachPunctual, agree_same, map_moved, new_reading, events_below, below_after, span_after, span_step, start_step, synced_start, synced_take, synced_drop, synced_step, proper_received, none_received, punctual_received}
-use Rattle.level.specs.Level.{State, beginning, wait, span_over, stepped_over, meaning_over, level_codes, level_of, level_back, level_meaning}
+use Rattle.level.specs.Level.{State, beginning, wait, span_over, meaning_over, level_codes, level_of, level_back, level_meaning}
 use Rattle.level.specs.States.{state_path}
 
 -- ---- Issues that are handed on

@@ -1,5 +1,5 @@
 -- What a level means, over what the controller below means.
-use Rattle.std.specs.Prelude.{◌≡◌, ℕ, min, max, List, [], ◌∷◌, map, refl}
+use Rattle.std.specs.Prelude.{◌≡◌, ℕ, min, max, List, map}
 use Rattle.std.proofs.Common.{ap}
 use Rattle.interface.specs.Meaning.{Meaning, Call, after}
 use Rattle.interface.specs.Coded.{coded}

@@ -1,6 +1,5 @@
 -- The history of a pair joins those of its two controllers.
-use Rattle.std.proofs.Common.{◌≡◌, ℕ, ◌+◌, ◌^◌, ◌<◌, ◌≤◌, Bool, true, false, cond, not, eqb, List, [], ◌∷◌, ◌++◌, Some, None, Option, sym, refl, ap, ◌∙◌, subst, append_assoc, append-nil, arith, eq-eqb, ne_eqb, eqb-true}
-use borrow.Author.Tests.{eqb-false}
+use Rattle.std.proofs.Common.{◌≡◌, ℕ, ◌+◌, ◌^◌, ◌<◌, ◌≤◌, Bool, true, false, cond, not, eqb, List, [], ◌∷◌, ◌++◌, Some, None, Option, sym, refl, ap, ◌∙◌, subst, append_assoc, append-nil, arith, ne_eqb, eqb-true}
 use Rattle.interface.specs.Meaning.{Meaning, Call, after, run, accepted, is_empty, check, take_refusal, step_refusal}
 use Rattle.interface.specs.Lawful.{Lawful}
 use Rattle.interface.specs.History.{History, Taking, Occurrence, blank, issued_in, ended_in, with_taking, with_step, noted, traced, history}
@@ -14,8 +13,8 @@ use Rattle.layer.specs.Collects.{collects}
 use Rattle.layer.proofs.Synced.{take_accepted}
 use Rattle.layer.proofs.Collecting.{traced_then, traced_collects, run_collects}
 use Rattle.pair.specs.Pair.{State, beginning, to_first, meaning_of, pair_codes, pair_of, pair_back}
-use Rattle.pair.specs.Laws.{to_second, passed_to, calls_to, calls_to_first, calls_to_second, takings_of, in_step, Joins, Pairs}
-use Rattle.pair.specs.Lawfulness.{Good, not_first, not_second, good_start, good_take, good_collect, of_first, of_second, of_both, tidy, tidy_is, good_tidy, none_done, fine}
+use Rattle.pair.specs.Laws.{to_second, passed_to, calls_to_first, calls_to_second, takings_of, in_step, Joins, Pairs}
+use Rattle.pair.specs.Lawfulness.{Good, not_first, not_second, good_start, good_take, good_collect, of_first, of_second, tidy_is, good_tidy, none_done, fine}
 
 -- ---- takings
 

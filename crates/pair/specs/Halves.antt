@@ -1,10 +1,10 @@
 -- What a pair receives in a step of both controllers.
-use Rattle.std.specs.Prelude.{◌≡◌, ℕ, ◌+◌, ◌-◌, ◌^◌, ◌<◌, ◌≤◌, max, Bool, true, false, cond, not, ◌&&◌, ◌||◌, List, [], ◌∷◌, ◌++◌, map, ◌==◌, nat_eq, refl}
+use Rattle.std.specs.Prelude.{◌≡◌, ℕ, ◌-◌, ◌^◌, ◌<◌, ◌≤◌, Bool, true, false, cond, not, ◌&&◌, ◌||◌, List, [], ◌∷◌, ◌++◌, map, ◌==◌, nat_eq, refl}
 use Rattle.std.proofs.Common.{sym, ap, ◌∙◌, subst, append-nil, arith, eqb-true}
 use Rattle.std.proofs.lemmas.Bool.{both_ways}
 use Rattle.interface.specs.Meaning.{any}
-use Rattle.interface.specs.Lawful.{issues, ends, aged, Standing, standing, slot_of, events_of, Proper, Punctual}
-use Rattle.interface.specs.Slots.{has_in, dropped, failing}
+use Rattle.interface.specs.Lawful.{issues, ends, Standing, standing, slot_of, events_of, Proper, Punctual}
+use Rattle.interface.specs.Slots.{dropped}
 use Rattle.interface.specs.declared.Request.{Request}
 use Rattle.interface.specs.declared.Event.{Event}
 use Rattle.interface.specs.declared.Event.TheVariants.{Issue, Done}
@@ -13,7 +13,7 @@ use Rattle.interface.proofs.Slots.{events_of_append, marked, Traced, ends_append
 use Rattle.layer.specs.declared.entry.Entry.{Entry}
 use Rattle.layer.specs.Entries.{slot_of_entry, done_below, reading}
 use Rattle.layer.proofs.Tables.{any_append}
-use Rattle.layer.proofs.Receiving.{has, moved, away, nobody, stage, EachProper, absent_none, no_issues, no_ends}
+use Rattle.layer.proofs.Receiving.{has, moved, nobody, stage, EachProper, absent_none, no_issues, no_ends}
 use Rattle.layer.proofs.Readiness.{Ready}
 use Rattle.layer.proofs.Synced.{Agree, EachPunctual}
 

@@ -1,9 +1,9 @@
 -- A pair keeps the laws of the interface, if its two controllers do.
-use Rattle.std.specs.Prelude.{◌≡◌, ℕ, ◌+◌, ◌^◌, ◌<◌, ◌≤◌, min, max, Bool, true, false, cond, not, List, [], ◌∷◌, ◌++◌, map, length, Some, None, Option, refl}
+use Rattle.std.specs.Prelude.{◌≡◌, ℕ, ◌^◌, ◌<◌, ◌≤◌, min, max, Bool, true, false, cond, not, List, [], ◌∷◌, ◌++◌, map, length, Some, None, Option, refl}
 use Rattle.std.proofs.Common.{sym, ap, ◌∙◌, subst, arith, length-append}
 use Rattle.std.proofs.lemmas.List.{length-map}
 use Rattle.interface.specs.Meaning.{Meaning, Call, after, Reached, first, is_empty, any, in_range, take_refusal, step_refusal, accepted}
-use Rattle.interface.specs.Lawful.{Lawful, issues, aged, fresh, standing, events_of, Proper, Punctual}
+use Rattle.interface.specs.Lawful.{Lawful, aged, fresh, standing, events_of, Proper, Punctual}
 use Rattle.interface.specs.declared.Request.{Request}
 use Rattle.interface.specs.declared.Event.{Event}
 use Rattle.interface.specs.declared.Event.TheVariants.{Issue, Done}
@@ -11,11 +11,10 @@ use Rattle.interface.proofs.Codes.{lawful_coded}
 use Rattle.interface.proofs.Slots.{Apart, apart_map, apart_dropped, apart_append, length_dropped, some_entries, map_append, Traced, traced_append, collected_held}
 use Rattle.interface.proofs.Runs.{reached_keeps}
 use Rattle.interface.proofs.Takes.{take_ok}
-use Rattle.layer.specs.declared.entry.Entry.{Entry}
 use Rattle.layer.specs.declared.forward.Forward.TheVariants.{All}
 use Rattle.layer.specs.Entries.{new_entry, slot_of_entry, done_below, updated, advanced, reading}
 use Rattle.layer.specs.Forwards.{forwarded}
-use Rattle.layer.specs.Contents.{Contents, all_added, collected}
+use Rattle.layer.specs.Contents.{all_added, collected}
 use Rattle.layer.proofs.Tables.{contents_path, map_fuse, updated_append}
 use Rattle.layer.proofs.Receiving.{has, moved, nobody, EachProper, proper_all}
 use Rattle.layer.proofs.Counts.{all_added_is, forwarded_all, few_events}

@@ -1,5 +1,5 @@
 -- What a pair means, over what its two controllers mean.
-use Rattle.std.specs.Prelude.{◌≡◌, ℕ, min, max, Bool, true, false, cond, List, [], ◌∷◌, map, nat_lt, refl}
+use Rattle.std.specs.Prelude.{◌≡◌, ℕ, min, max, Bool, cond, List, map, nat_lt}
 use Rattle.std.proofs.Common.{ap}
 use Rattle.interface.specs.Meaning.{Meaning, Call, after}
 use Rattle.interface.specs.Coded.{coded}

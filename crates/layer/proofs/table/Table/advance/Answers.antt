@@ -3,7 +3,7 @@ use lib.ListN.{length-map}
 use Rattle.std.specs.Vec.{with_items}
 use Rattle.std.proofs.lemmas.List.{with_items_is}
 use Rattle.layer.specs.Entries.{advanced}
-use Rattle.layer.specs.Contents.{Contents, contents, all_advanced}
+use Rattle.layer.specs.Contents.{contents, all_advanced}
 use Rattle.layer.proofs.Tables.{contents_path}
 use Rattle.layer.proofs.table.Table.advance.Goals as goal
 

@@ -3,7 +3,7 @@ use Rattle.std.specs.List.{remove}
 use Rattle.interface.specs.Slots.{place, has_in}
 use Rattle.interface.proofs.Slots.{dropped_there, dropped_not}
 use Rattle.layer.specs.Entries.{slot_of_entry}
-use Rattle.layer.specs.Contents.{Contents, contents, without_slot}
+use Rattle.layer.specs.Contents.{contents, without_slot}
 use Rattle.layer.proofs.Tables.{contents_path}
 use Rattle.layer.proofs.table.Table.end.Goals as goal
 

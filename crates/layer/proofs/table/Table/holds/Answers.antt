@@ -1,4 +1,4 @@
-use Rattle.std.proofs.Common.{ltb, length, vec_items, sym, refl, ap, ◌∙◌}
+use Rattle.std.proofs.Common.{ltb, vec_items, ap, ◌∙◌}
 use Rattle.interface.specs.Slots.{place, has_in}
 use Rattle.layer.specs.Entries.{slot_of_entry}
 use Rattle.layer.proofs.Tables.{held_place}

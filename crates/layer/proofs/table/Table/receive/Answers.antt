@@ -1,9 +1,9 @@
-use Rattle.std.proofs.Common.{◌≡◌, [], ◌∷◌, map, length, vec_items, sym, refl, ap, ◌∙◌}
+use Rattle.std.proofs.Common.{◌≡◌, [], ◌∷◌, map, length, vec_items, sym, ap, ◌∙◌}
 use lib.ListN.{length-map}
 use Rattle.std.specs.Vec.{with_items}
 use Rattle.std.proofs.lemmas.List.{with_items_is}
 use Rattle.layer.specs.Entries.{updated}
-use Rattle.layer.specs.Contents.{Contents, contents, gathered}
+use Rattle.layer.specs.Contents.{contents, gathered}
 use Rattle.layer.proofs.Tables.{contents_path, forwarded_on, not_forwarded}
 use Rattle.layer.proofs.table.Table.receive.Goals as goal
 

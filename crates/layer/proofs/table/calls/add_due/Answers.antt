@@ -1,8 +1,7 @@
-use Rattle.std.proofs.Common.{◌≡◌, ◌+◌, [], ◌∷◌, drop, vec_items, vec_capacity, sym, refl, ap, ◌∙◌}
-use Rattle.interface.specs.declared.Event.TheVariants.{Done}
+use Rattle.std.proofs.Common.{◌+◌, [], drop, vec_items, vec_capacity, sym, refl, ap, ◌∙◌}
 use Rattle.interface.proofs.Slots.{dones_here, dones_not, dones_end}
 use Rattle.layer.specs.Entries.{slot_of_entry, is_due}
-use Rattle.layer.specs.Contents.{added, all_added, dones_due}
+use Rattle.layer.specs.Contents.{all_added, dones_due}
 use Rattle.layer.proofs.table.calls.add_due.Goals as goal
 use Rattle.layer.proofs.table.calls.add_due.Goals.{then-is_due, else-is_due}
 

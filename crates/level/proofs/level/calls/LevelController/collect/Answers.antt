@@ -1,4 +1,4 @@
-use Rattle.std.proofs.Common.{◌≡◌, sym, refl, ap, ◌∙◌}
+use Rattle.std.proofs.Common.{sym, ap, ◌∙◌}
 use Rattle.interface.specs.Meaning.{Call}
 use Rattle.interface.proofs.Codes.{after_is, collect_is}
 use Rattle.layer.specs.Contents.{Contents}

@@ -2,7 +2,7 @@ use Rattle.std.proofs.Common.{◌≡◌, sym, refl, ap, ◌∙◌}
 use Rattle.interface.specs.Meaning.{Call, accepted, refused, take_refusal}
 use Rattle.interface.proofs.Codes.{after_is, take_is}
 use Rattle.layer.proofs.Synced.{admission_is}
-use Rattle.level.specs.Level.{State, view, span_over, meaning_over, level_codes, level_of, level_back}
+use Rattle.level.specs.Level.{view, span_over, meaning_over, level_codes, level_of, level_back}
 use Rattle.level.proofs.level.calls.LevelController.take.Goals as goal
 
 pub returns : goal.returns

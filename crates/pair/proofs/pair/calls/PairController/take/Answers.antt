@@ -2,7 +2,7 @@ use Rattle.std.proofs.Common.{◌≡◌, sym, refl, ap, ◌∙◌}
 use Rattle.interface.specs.Meaning.{Call, accepted, refused, take_refusal}
 use Rattle.interface.proofs.Codes.{after_is, take_is}
 use Rattle.layer.proofs.Synced.{admission_is}
-use Rattle.pair.specs.Pair.{State, view, span_of, meaning_of, pair_codes, pair_of, pair_back}
+use Rattle.pair.specs.Pair.{view, span_of, meaning_of, pair_codes, pair_of, pair_back}
 use Rattle.pair.specs.Lawfulness.{pair_places}
 use Rattle.pair.proofs.pair.calls.PairController.take.Goals as goal
 
