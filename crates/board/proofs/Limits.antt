@@ -1,18 +1,17 @@
 -- The checks of the setting calls, with the free places in place of all slots.
-use Rattle.std.proofs.Common.{◌≡◌, ℕ, zero, suc, ◌+◌, ◌-◌, ◌<◌, ◌≤◌, Bool, true, false, cond, not, ◌&&◌, ◌||◌, eqb, ltb, leb, List, [], ◌∷◌, ◌++◌, map, length, get_or, set, replicate, Some, None, Option, sym, refl, ap, ◌∙◌, arith, length-append}
+use Rattle.std.proofs.Common.{◌≡◌, ℕ, zero, suc, ◌+◌, ◌-◌, ◌<◌, ◌≤◌, Bool, true, false, cond, not, ◌&&◌, ◌||◌, ltb, leb, List, [], ◌∷◌, ◌++◌, map, length, get_or, set, replicate, Some, None, Option, sym, refl, ap, ◌∙◌, arith, length-append}
 use lib.ListN.{length-map}
-use Rattle.std.proofs.lemmas.Bool.{lt-ltb, le-ltb, ltb-true, ltb-false, leb-true, lt-leb, le-leb}
-use Rattle.interface.specs.Meaning.{check, any, is_empty, accepted}
+use Rattle.std.proofs.lemmas.Bool.{lt-ltb, le-ltb, ltb-true, ltb-false, lt-leb, le-leb}
+use Rattle.interface.specs.Meaning.{check, any, accepted}
 use Rattle.std.specs.Option.{option_map}
 use Rattle.std.proofs.lemmas.List.{map-set}
 use Rattle.patterns.specs.declared.setting.VertexSetting.{VertexSetting}
 use Rattle.patterns.specs.declared.setting.EdgeSetting.{EdgeSetting}
 use Rattle.patterns.specs.Lanes.{LaneView, lane_of, changed}
-use Rattle.patterns.specs.Tables.{lanes_view, table_view, with_lane, table_refusal}
-use Rattle.patterns.specs.declared.domain.DomainLanes.{DomainLanes}
+use Rattle.patterns.specs.Tables.{lanes_view, with_lane, table_refusal}
 use Rattle.patterns.proofs.Checks.{passes, few_lanes, good_shape, accepted_from, Accepted, GoodEdge, good_edges}
 use Rattle.patterns.proofs.Checks as checks
-use Rattle.patterns.specs.Shape.{shape_checks, lane_refusal, vertex_count, high_bank, bad_edges, edge_of}
+use Rattle.patterns.specs.Shape.{lane_refusal, vertex_count, high_bank, bad_edges, edge_of}
 use Rattle.model.specs.Settings.{Pattern, Role, unset, opened, protected, Settings, role_of, patterns_of, is_unset, is_opened, all_slots, vertices, vertices_below, lane_vertices, pattern_at, vertices_from, open_slots, slots_from}
 use Rattle.model.specs.Calls.{Setting, opens, lane, first, settled, too_many, setting_refusal}
 use Rattle.board.specs.Sets.{spot_of, pattern_of, roles_of, settings_by, role_at, no_share, is_unset_at, open_checks, takes_no_lane, lane_checks, lane_formed, domain_formed, low_source, formed, first_checks, shares_view}
@@ -20,8 +19,8 @@ use Rattle.board.specs.Boards.{BoardView, board_view, settings_of, with_setting,
 use Rattle.board.specs.Shares.{share_number}
 use Rattle.board.specs.declared.board.Board.{Board}
 use Rattle.board.specs.declared.share.Share.{Share}
-use Rattle.board.proofs.Roles.{roles_length, role_is, unset_at, opened_at, lanes_at, open_settled, lane_settled, first_settled}
-use Rattle.board.proofs.Totals.{open_adds, lane_adds, roles_only}
+use Rattle.board.proofs.Roles.{roles_length, role_is, unset_at, opened_at, lanes_at, open_settled, lane_settled}
+use Rattle.board.proofs.Totals.{open_adds, lane_adds}
 
 -- so many more than are free, or together more than the places
 free_test : (places used n : ℕ) → 1 ≤ n → ltb (places - used) n ≡ ltb places (used + n)

@@ -1,6 +1,5 @@
 -- Lanes that move on stay the same patterns.
-use Rattle.std.proofs.Common.{◌≡◌, ℕ, zero, suc, Bool, true, false, not, ◌&&◌, ◌||◌, leb, List, [], ◌∷◌, ◌++◌, map, length, Some, None, Option, sym, refl, ap, ◌∙◌}
-use lib.ListN.{length-map}
+use Rattle.std.proofs.Common.{◌≡◌, ℕ, zero, suc, not, ◌&&◌, ◌||◌, leb, List, [], ◌∷◌, map, length, Some, None, Option, refl, ap, ◌∙◌}
 use Rattle.interface.specs.Meaning.{any}
 use Rattle.patterns.specs.declared.vertex.Vertex.{Vertex}
 use Rattle.patterns.specs.declared.vertex.VertexEvent.{VertexEvent}
@@ -8,8 +7,8 @@ use Rattle.patterns.specs.declared.vertex.VertexEvent.TheVariants.{NewRound}
 use Rattle.patterns.specs.declared.setting.VertexSetting.{VertexSetting}
 use Rattle.patterns.specs.Moves.{moved}
 use Rattle.patterns.specs.Lanes.{LaneView, changed, advanced, ended, renewed_at, renewed}
-use Rattle.model.specs.Settings.{Pattern, Role, protected}
-use Rattle.board.specs.Sets.{spot_of, pattern_of, role_at, roles_of, lane_formed, domain_formed, low_source, formed}
+use Rattle.model.specs.Settings.{protected}
+use Rattle.board.specs.Sets.{spot_of, pattern_of, role_at, roles_of, lane_formed, domain_formed, formed}
 use Rattle.board.proofs.Limits.{lane_form}
 
 spots_moved : (e : VertexEvent) (vs : List Vertex) → map spot_of (map (moved e) vs) ≡ map spot_of vs

@@ -1,14 +1,14 @@
 -- The roles of the domains, read and set through shares and lanes.
-use Rattle.std.proofs.Common.{◌≡◌, ℕ, zero, suc, ◌<◌, ◌≤◌, Bool, true, false, cond, not, ◌&&◌, List, [], ◌∷◌, ◌++◌, map, length, get_or, set, Some, None, Option, sym, refl, ap, ◌∙◌, arith}
+use Rattle.std.proofs.Common.{◌≡◌, ℕ, zero, suc, not, ◌&&◌, List, [], ◌∷◌, ◌++◌, map, length, get_or, set, Some, None, Option, sym, refl, ap, ◌∙◌, arith}
 use Rattle.std.proofs.lemmas.List.{get_or_past}
 use Rattle.interface.specs.Meaning.{is_empty}
 use Rattle.patterns.specs.declared.setting.VertexSetting.{VertexSetting}
 use Rattle.patterns.specs.declared.setting.EdgeSetting.{EdgeSetting}
 use Rattle.patterns.specs.Lanes.{LaneView, lane_of, changed}
 use Rattle.patterns.specs.Shape.{vertex_of, edge_of}
-use Rattle.model.specs.Settings.{Pattern, Role, unset, opened, protected, Settings, role_of, patterns_of, is_unset, is_opened}
-use Rattle.model.specs.Calls.{Setting, opens, lane, first, settled}
-use Rattle.board.specs.Sets.{spot_of, pattern_of, role_at, roles_of, settings_by, no_share, is_unset_at}
+use Rattle.model.specs.Settings.{Role, unset, opened, protected, role_of, patterns_of, is_unset, is_opened}
+use Rattle.model.specs.Calls.{opens, lane, first, settled}
+use Rattle.board.specs.Sets.{spot_of, pattern_of, role_at, roles_of, no_share}
 use Rattle.board.specs.Boards.{BoardView, settings_of, with_setting}
 
 pub roles_length : (ss : List (Option ℕ)) (ts : List (List LaneView)) → length (roles_of ss ts) ≡ length ss

@@ -1,13 +1,11 @@
 -- How many slots the shares and vertices have together, and by how many a setting adds to them.
-use Rattle.std.proofs.Common.{◌≡◌, ℕ, zero, suc, ◌+◌, ◌*◌, ◌/◌, ◌%◌, ◌<◌, ◌≤◌, Bool, true, false, cond, eqb, List, [], ◌∷◌, ◌++◌, map, length, get_or, set, Some, None, Option, sym, refl, ap, ◌∙◌, add-one, arith, length-append}
+use Rattle.std.proofs.Common.{◌≡◌, ℕ, zero, suc, ◌+◌, ◌*◌, ◌/◌, ◌%◌, ◌<◌, Bool, true, false, eqb, List, [], ◌∷◌, ◌++◌, length, get_or, set, sym, refl, ap, ◌∙◌, arith, length-append}
 use Rattle.std.proofs.lemmas.List.{get_or_past, get_or-set_same, get_or-set_other}
 use Rattle.std.proofs.lemmas.Bool.{eqb-true, eqb-false}
 use Rattle.patterns.specs.declared.edge.Edge.{Edge}
 use Rattle.patterns.specs.declared.setting.VertexSetting.{VertexSetting}
-use Rattle.patterns.specs.declared.setting.EdgeSetting.{EdgeSetting}
-use Rattle.patterns.specs.Shape.{edge_of}
-use Rattle.model.specs.Settings.{Pattern, Role, unset, opened, protected, Settings, Vertex, role_of, share_of, patterns_of, is_unset, is_opened, pattern_at, vertices_from, lane_vertices, vertices_below, vertices, slots_of, slots_from, open_slots, all_slots}
-use Rattle.model.specs.Calls.{Setting, opens, lane, first, settled}
+use Rattle.model.specs.Settings.{Pattern, Role, unset, opened, protected, Settings, Vertex, role_of, share_of, patterns_of, is_opened, pattern_at, vertices_from, lane_vertices, vertices_below, vertices, slots_of, slots_from, open_slots, all_slots}
+use Rattle.model.specs.Calls.{opens, settled}
 
 -- f 0 + .. + f (k - 1)
 total : (ℕ → ℕ) → ℕ → ℕ

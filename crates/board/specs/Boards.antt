@@ -1,8 +1,6 @@
 -- The public side of the tables as plain values, and what the setting calls do to it.
-use Rattle.std.specs.Prelude.{ℕ, ◌/◌, ◌%◌, List, [], ◌∷◌, ◌++◌, map, set, replicate, Some, None, vec_items, Option, slice_set}
+use Rattle.std.specs.Prelude.{ℕ, ◌/◌, ◌%◌, List, [], ◌∷◌, ◌++◌, map, replicate, Some, None, vec_items, Option, slice_set}
 use Rattle.interface.specs.Meaning.{accepted}
-use Rattle.patterns.specs.declared.setting.VertexSetting.{VertexSetting}
-use Rattle.patterns.specs.declared.setting.EdgeSetting.{EdgeSetting}
 use Rattle.patterns.specs.Lanes.{LaneView, lane_of, changed, started, renewed, advanced}
 use Rattle.patterns.specs.declared.vertex.VertexEvent.{VertexEvent}
 use Rattle.patterns.specs.Tables.{table_view}

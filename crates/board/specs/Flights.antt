@@ -1,5 +1,5 @@
 -- What the slots have in flight, read from the board, and what an event of the controller does to it.
-use Rattle.std.specs.Prelude.{ℕ, ◌/◌, ◌%◌, List, [], ◌∷◌, Some, None, Option, slice_index_or}
+use Rattle.std.specs.Prelude.{ℕ, ◌/◌, ◌%◌, List, [], Some, None, Option, slice_index_or}
 use Rattle.std.specs.List.{slice_get}
 use Rattle.interface.specs.declared.Event.{Event}
 use Rattle.interface.specs.declared.Event.TheVariants as reported

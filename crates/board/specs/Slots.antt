@@ -1,5 +1,5 @@
 -- The slots of open domains.
-use Rattle.std.specs.Prelude.{ℕ, Bool, true, false, List, Some, None, Option}
+use Rattle.std.specs.Prelude.{ℕ, Bool, true, false, Some, None, Option}
 use Rattle.interface.specs.declared.Kind.{Kind}
 use Rattle.interface.specs.Meaning.{any}
 use Rattle.patterns.specs.declared.vertex.Vertex.{Vertex}

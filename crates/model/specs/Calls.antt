@@ -1,5 +1,5 @@
 -- The calls: what each is refused for, what it answers and writes, and the state after it.
-use Rattle.std.specs.Prelude.{ℕ, suc, ◌+◌, ◌*◌, ◌%◌, ◌^◌, Bool, false, not, ◌&&◌, ◌||◌, List, [], ◌∷◌, ◌++◌, map, length, set, Some, None, Option, ◌==◌, nat_le, nat_lt, slice_set}
+use Rattle.std.specs.Prelude.{ℕ, suc, ◌+◌, ◌*◌, ◌%◌, ◌^◌, Bool, false, not, ◌&&◌, ◌||◌, List, [], ◌∷◌, ◌++◌, map, length, Some, None, Option, ◌==◌, nat_le, nat_lt, slice_set}
 use Rattle.interface.specs.Meaning as controller
 use Rattle.interface.specs.Meaning.{Meaning, after, check}
 use Rattle.interface.specs.declared.Kind.{Kind}

@@ -1,5 +1,5 @@
 -- From untouched tables a run begins with every slot still, every lane at the first tick, and no request.
-use Rattle.std.proofs.Common.{◌≡◌, ℕ, zero, suc, ◌/◌, ◌%◌, ◌<◌, ◌≤◌, Bool, true, false, cond, not, ◌&&◌, ◌||◌, ltb, List, [], ◌∷◌, ◌++◌, map, length, get_or, replicate, Some, None, Option, sym, refl, ap, ◌∙◌, arith}
+use Rattle.std.proofs.Common.{◌≡◌, ℕ, zero, suc, ◌/◌, ◌%◌, Bool, true, false, not, ◌&&◌, ◌||◌, ltb, List, [], ◌∷◌, ◌++◌, map, get_or, replicate, Some, None, Option, sym, refl, ap, ◌∙◌, arith}
 use mathlib.Core.Path.{fun_ext}
 use Rattle.std.proofs.lemmas.Bool.{ltb-false}
 use Rattle.std.specs.Option.{option_map}
@@ -9,14 +9,13 @@ use Rattle.patterns.specs.declared.vertex.Vertex.{Vertex}
 use Rattle.patterns.specs.declared.vertex.VertexState.{VertexState}
 use Rattle.patterns.specs.declared.vertex.VertexState.TheVariants.{Still, Flying, Done}
 use Rattle.patterns.specs.declared.setting.VertexSetting.{VertexSetting}
-use Rattle.patterns.specs.declared.setting.EdgeSetting.{EdgeSetting}
 use Rattle.patterns.specs.Lanes.{LaneView, lane_of, changed, started}
 use Rattle.patterns.specs.Shape.{vertex_of}
 use Rattle.model.specs.declared.Payload.{Payload}
 use Rattle.model.specs.declared.Payload.TheVariants.{Fake}
 use Rattle.model.specs.declared.Waiting.{Waiting}
 use Rattle.model.specs.Settings.{Settings, Role, blank}
-use Rattle.model.specs.Ticks.{Stage, still, Tables}
+use Rattle.model.specs.Ticks.{Stage, still}
 use Rattle.model.specs.Calls.{Running, State, running, Setting, opens, lane, first, setting_refusal, begins, good, outcome}
 use Rattle.model.specs.Calls as calls
 use Rattle.board.specs.declared.slot.OpenSlot.{OpenSlot}
@@ -28,7 +27,7 @@ use Rattle.store.specs.Stores.{BacklogView, StoreView, no_backlog, new_store}
 use Rattle.board.proofs.Limits.{roles_map}
 use Rattle.scheduler.specs.Fresh.{has_moved, lane_moved, lanes_moved, backlog_used, untouched}
 use Rattle.board.specs.Flights.{lane_at, vertex_in}
-use Rattle.scheduler.specs.Views.{open_stage, state_stage, vertex_stage, slot_stage, stage_at, start_of, start_at, queue_at, serial_at, tables_of, running_of, state_of}
+use Rattle.scheduler.specs.Views.{open_stage, state_stage, vertex_stage, slot_stage, stage_at, start_of, start_at, queue_at, serial_at, running_of, state_of}
 
 or_parts : (s t : Bool) → (s || t) ≡ false → (s ≡ false) × (t ≡ false)
 or_parts true t e = let z : ◌≡◌ {A = ℕ} 0 1 = (cc) in absurd (omega arith)

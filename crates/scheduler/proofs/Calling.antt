@@ -1,5 +1,5 @@
 -- Any call of a run: what it answers and leaves, and how it extends the run before it.
-use Rattle.std.proofs.Common.{◌≡◌, ℕ, ◌<◌, ◌≤◌, min, Bool, true, false, ◌||◌, ltb, leb, List, [], ◌∷◌, ◌++◌, length, take, Some, None, Ok, Err, Option, Result, sym, refl, ap, ◌∙◌, subst, arith}
+use Rattle.std.proofs.Common.{◌≡◌, ℕ, ◌≤◌, min, ◌||◌, ltb, leb, List, [], ◌∷◌, ◌++◌, length, take, Some, None, Ok, Err, Option, Result, sym, refl, ap, ◌∙◌, subst, arith}
 use Rattle.std.proofs.lemmas.Bool.{ltb-false}
 use Rattle.std.specs.List.{AllByRecursion as All}
 use Rattle.interface.specs.Lawful.{Lawful}
@@ -8,7 +8,6 @@ use Rattle.model.specs.declared.Line.{Line}
 use Rattle.model.specs.declared.Notice.{Notice}
 use Rattle.model.specs.declared.Refusal.{Refusal}
 use Rattle.model.specs.Refusals.{number}
-use Rattle.model.specs.Refusals as refusals
 use Rattle.model.specs.Settings.{Settings}
 use Rattle.model.specs.Calls.{Setting, sets, begins, submit, ticks, Reply, refused, good, serial, wrote, State, setting, running, Running, Outcome, new, next_tick, limit, setting_refusal, submit_refusal, tick_refusal, unless, outcome}
 use Rattle.model.specs.Calls as model
@@ -25,7 +24,7 @@ use Rattle.scheduler.specs.declared.call.Call.TheVariants.{Open, Lane, First, Be
 use Rattle.scheduler.specs.declared.call.Answer.{Answer}
 use Rattle.scheduler.specs.declared.call.Answer.TheVariants.{Accepted, Taken, Ticked}
 use Rattle.scheduler.specs.Histories.{made_call, told, seen, Extends}
-use Rattle.scheduler.specs.Schedulers.{Told, refusal, accepted, taken, counts, told_of, lines_in, reply_of, replied, serial_reply}
+use Rattle.scheduler.specs.Schedulers.{Told, counts, told_of, lines_in, replied, serial_reply}
 
 -- ---- one kind of call
 

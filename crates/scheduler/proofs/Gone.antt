@@ -2,7 +2,7 @@
 use Rattle.std.proofs.Common.{◌≡◌, ℕ, zero, suc, ◌/◌, ◌<◌, Bool, true, false, cond, eqb, List, [], ◌∷◌, ◌++◌, map, length, get_or, set, Some, None, Option, sym, refl, ap, ◌∙◌, arith, length-set}
 use mathlib.Core.Path.{fun_ext}
 use Rattle.std.proofs.lemmas.List.{get_or-set_same, get_or-set_other}
-use Rattle.std.proofs.lemmas.Bool.{eqb-true, eqb-false, eq-eqb, ne_eqb}
+use Rattle.std.proofs.lemmas.Bool.{eqb-true, eqb-false, eq-eqb}
 use Rattle.std.specs.Option.{option_map}
 use Rattle.std.specs.List.{AllByRecursion as All}
 use Rattle.interface.specs.Meaning.{Meaning, Call, after}
@@ -21,13 +21,12 @@ use Rattle.model.specs.declared.Payload.TheVariants.{Fake}
 use Rattle.model.specs.declared.Waiting.{Waiting}
 use Rattle.model.specs.Settings.{Settings}
 use Rattle.model.specs.Settings as model
-use Rattle.model.specs.Ticks.{Stage, still, flying, done, Tables, put, through, written, line_of, oldest, without, payload_for, departed, take_line, request_of, taken_all}
-use Rattle.board.specs.declared.slot.OpenSlot.{OpenSlot}
+use Rattle.model.specs.Ticks.{Stage, flying, Tables, put, through, written, line_of, oldest, without, payload_for, departed, take_line, request_of, taken_all}
 use Rattle.board.specs.declared.slot.OpenSlot.TheVariants.{Free}
 use Rattle.board.specs.Boards.{BoardView, settings_of, advanced_board}
 use Rattle.board.specs.Flights.{vertex_at}
 use Rattle.board.specs.Leaving.{departed_board}
-use Rattle.store.specs.Stores.{BacklogView, StoreView, backlog_at, with_backlog, with_payload, unqueued}
+use Rattle.store.specs.Stores.{StoreView, backlog_at, unqueued}
 use Rattle.store.specs.Lines.{line_with, load_for, loaded, all_loaded, load_lines}
 use Rattle.scheduler.specs.Hearing.{taken_by}
 use Rattle.scheduler.specs.Views.{state_stage, vertex_stage, slot_stage, stage_at, start_at, queue_at, serial_at, tables_of}

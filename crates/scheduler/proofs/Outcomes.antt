@@ -3,7 +3,7 @@ use Rattle.std.proofs.Common.{◌≡◌, ℕ, Bool, true, false, List, [], Some,
 use Rattle.interface.specs.Meaning.{Meaning, accepted}
 use Rattle.interface.specs.declared.Kind.{Kind}
 use Rattle.model.specs.Settings.{Settings}
-use Rattle.model.specs.Calls.{Setting, Call, sets, begins, submit, Reply, refused, good, State, setting, running, Running, settled, setting_refusal, outcome, unless}
+use Rattle.model.specs.Calls.{Setting, sets, begins, submit, refused, good, setting, Running, settled, setting_refusal, outcome, unless}
 use Rattle.board.specs.Boards.{BoardView, settings_of, with_setting, set_with}
 use Rattle.scheduler.specs.Views.{state_of}
 use Rattle.scheduler.specs.Schedulers.{reply_of}

@@ -1,5 +1,5 @@
 -- An accepted tick: the steps of the code one after the other come to the model's tick.
-use Rattle.std.proofs.Common.{◌≡◌, ℕ, suc, ◌+◌, List, [], ◌∷◌, ◌++◌, map, length, sym, refl, ap, ◌∙◌}
+use Rattle.std.proofs.Common.{◌≡◌, ℕ, suc, List, ◌++◌, map, length, sym, ap, ◌∙◌}
 use lib.ListN.{length-map}
 use Rattle.interface.specs.Emptied.{emptied}
 use Rattle.interface.specs.Meaning.{Meaning, Call, after}
@@ -11,9 +11,8 @@ use Rattle.patterns.specs.Lanes as lanes
 use Rattle.model.specs.declared.Line.{Line}
 use Rattle.model.specs.declared.Notice.{Notice}
 use Rattle.model.specs.Settings.{Role, Settings, vertices, all_slots}
-use Rattle.model.specs.Settings as model
-use Rattle.model.specs.Ticks.{Tables, through, written, completed, event_line, event_notice, take_line, departed, rounds, leaving, request_of, taken_all, step_events, after_events, after_rounds, departures, after_tick, controller_after, lines, notices}
-use Rattle.model.specs.Calls.{Running, ticked}
+use Rattle.model.specs.Ticks.{Tables, through, written, completed, event_line, rounds, leaving, request_of, step_events, after_events, after_rounds, departures, after_tick, controller_after, lines, notices}
+use Rattle.model.specs.Calls.{ticked}
 use Rattle.board.specs.Boards.{BoardView, settings_of, renewed_board}
 use Rattle.board.specs.Leaving.{board_leaving, departed_board}
 use Rattle.board.proofs.Limits.{roles_map, formed_map}

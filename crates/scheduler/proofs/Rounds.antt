@@ -1,5 +1,5 @@
 -- The next rounds, by lanes and as the model has them.
-use Rattle.std.proofs.Common.{◌≡◌, ℕ, zero, suc, ◌+◌, ◌*◌, ◌/◌, ◌%◌, ◌<◌, ◌≤◌, Bool, true, false, not, ◌&&◌, List, [], ◌∷◌, map, length, get_or, Some, None, Option, sym, refl, ap, ◌∙◌, arith}
+use Rattle.std.proofs.Common.{◌≡◌, ℕ, zero, suc, ◌+◌, ◌*◌, ◌/◌, ◌%◌, ◌<◌, List, [], ◌∷◌, map, length, get_or, Some, None, Option, sym, refl, ap, ◌∙◌, arith}
 use mathlib.Core.Path.{fun_ext}
 use lib.ListN.{length-map}
 use Rattle.std.proofs.lemmas.List.{get_or_past}
@@ -16,16 +16,16 @@ use Rattle.patterns.specs.Lanes.{LaneView, vertex_done, done_by, ended, renewed_
 use Rattle.patterns.specs.Lanes as lanes
 use Rattle.model.specs.declared.Payload.{Payload}
 use Rattle.model.specs.declared.Payload.TheVariants.{Fake}
-use Rattle.model.specs.Settings.{Pattern, Role, Settings, role_of, patterns_of, pattern_at}
-use Rattle.model.specs.Ticks.{Stage, still, flying, done, Tables, done_tick, done_in, lane_end, renewed, rounds}
+use Rattle.model.specs.Settings.{Pattern, Role, patterns_of, pattern_at}
+use Rattle.model.specs.Ticks.{Stage, done_tick, done_in, lane_end, renewed, rounds}
 use Rattle.board.specs.Sets.{spot_of, pattern_of, role_at}
 use Rattle.board.specs.Boards.{BoardView, settings_of, renewed_board}
 use Rattle.store.specs.Stores.{StoreView}
 use Rattle.board.specs.declared.slot.OpenSlot.{OpenSlot}
 use Rattle.board.specs.declared.slot.OpenSlot.TheVariants.{Free}
-use Rattle.board.proofs.Limits.{Known, role}
+use Rattle.board.proofs.Limits.{role}
 use Rattle.board.specs.Flights.{lane_at, vertex_in}
-use Rattle.scheduler.specs.Views.{open_stage, state_stage, vertex_stage, slot_stage, stage_at, start_of, start_at, queue_at, tables_of}
+use Rattle.scheduler.specs.Views.{state_stage, vertex_stage, slot_stage, stage_at, start_of, start_at, queue_at, tables_of}
 use Rattle.scheduler.proofs.Begins.{lane_at_map}
 use Rattle.scheduler.proofs.Submitted.{Sound, shapes}
 

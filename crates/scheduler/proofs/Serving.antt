@@ -1,8 +1,7 @@
 -- Whether a vertex of a domain has a bank and kind, over all vertices and over the domain's lanes.
-use Rattle.std.proofs.Common.{◌≡◌, ℕ, zero, suc, ◌+◌, ◌*◌, ◌/◌, ◌%◌, ◌<◌, ◌≤◌, Bool, true, false, cond, not, ◌&&◌, ◌||◌, eqb, leb, List, [], ◌∷◌, ◌++◌, map, length, get_or, Some, None, Option, sym, refl, ap, ◌∙◌, arith}
-use lib.ListN.{length-map}
+use Rattle.std.proofs.Common.{◌≡◌, ℕ, zero, suc, ◌+◌, ◌*◌, ◌/◌, ◌%◌, ◌<◌, ◌≤◌, Bool, true, false, ◌&&◌, ◌||◌, eqb, List, [], ◌∷◌, ◌++◌, map, length, get_or, sym, refl, ap, ◌∙◌, arith}
 use Rattle.std.proofs.lemmas.List.{get_or_past}
-use Rattle.std.proofs.lemmas.Bool.{eqb-true, eqb-false, eq-eqb, ne_eqb, leb-true}
+use Rattle.std.proofs.lemmas.Bool.{eqb-true, eqb-false, eq-eqb}
 use Rattle.interface.specs.declared.Kind.{Kind}
 use Rattle.interface.specs.Meaning.{any}
 use Rattle.patterns.specs.declared.edge.Edge.{Edge}
@@ -13,7 +12,7 @@ use Rattle.model.specs.Settings.{Pattern, Role, unset, opened, protected, Settin
 use Rattle.model.specs.Settings as model
 use Rattle.model.specs.Ticks.{alike}
 use Rattle.model.specs.Calls.{serves}
-use Rattle.board.specs.Sets.{spot_of, pattern_of, role_at}
+use Rattle.board.specs.Sets.{spot_of, pattern_of}
 use Rattle.board.specs.Slots.{vertex_serves, lane_serves}
 
 abbrev spot_serves : ℕ → Kind → VertexSetting → Bool

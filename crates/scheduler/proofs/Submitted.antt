@@ -1,19 +1,18 @@
 -- What a submit comes to, from what the tables say of it.
-use Rattle.std.proofs.Common.{◌≡◌, ℕ, zero, suc, ◌+◌, ◌*◌, ◌/◌, ◌%◌, ◌^◌, ◌<◌, ◌≤◌, Bool, true, false, cond, not, ◌&&◌, ◌||◌, eqb, ltb, leb, List, [], ◌∷◌, ◌++◌, map, length, get_or, set, Some, None, Option, sym, refl, ap, ◌∙◌, mod-lt, add-one, arith}
+use Rattle.std.proofs.Common.{◌≡◌, ℕ, zero, suc, ◌/◌, ◌%◌, ◌^◌, ◌<◌, ◌≤◌, Bool, true, false, cond, not, ◌&&◌, ◌||◌, eqb, ltb, leb, List, [], ◌∷◌, ◌++◌, map, length, get_or, set, Some, None, Option, sym, refl, ap, ◌∙◌, mod-lt, add-one, arith}
 use mathlib.Core.Path.{fun_ext}
 use lib.ListN.{length-map}
 use Rattle.std.proofs.lemmas.List.{get_or_past, get_or-set_same, get_or-set_other}
 use Rattle.std.proofs.lemmas.Bool.{eqb-true, eqb-false, leb-true, leb-false, ltb-false, lt-ltb}
-use Rattle.std.specs.Option.{option_map}
 use Rattle.interface.specs.declared.Kind.{Kind}
-use Rattle.interface.specs.Meaning.{Meaning, Call, after, any, check, is_empty}
+use Rattle.interface.specs.Meaning.{Meaning, Call, after, any, check}
 use Rattle.patterns.specs.Lanes.{LaneView, changed}
 use Rattle.patterns.proofs.Checks.{passes}
 use Rattle.model.specs.declared.Payload.{Payload}
 use Rattle.model.specs.declared.Payload.TheVariants.{Fake, Real}
 use Rattle.model.specs.declared.Waiting.{Waiting}
-use Rattle.model.specs.Settings.{Pattern, Role, unset, opened, protected, Settings, role_of, patterns_of, is_unset, pattern_at, vertices}
-use Rattle.model.specs.Ticks.{Stage, still, flying, Tables, put, is_still}
+use Rattle.model.specs.Settings.{Pattern, Role, role_of, patterns_of, is_unset, pattern_at}
+use Rattle.model.specs.Ticks.{Stage, flying, put, is_still}
 use Rattle.model.specs.Calls.{State, running, Running, Reply, refused, serial, slot_in_turn, serves, role_refusal, submit_refusal, enqueued, taken_open, submitted, submit_outcome, unless, outcome}
 use Rattle.model.specs.Calls as calls
 use Rattle.board.specs.declared.board.Board.{Board}
@@ -21,15 +20,15 @@ use Rattle.store.specs.declared.store.Store.{Store}
 use Rattle.board.specs.declared.share.Share.{Share}
 use Rattle.board.specs.declared.slot.OpenSlot.{OpenSlot}
 use Rattle.board.specs.declared.slot.OpenSlot.TheVariants.{Free, Held}
-use Rattle.board.specs.Sets.{shares_view, spot_of, pattern_of, role_at, no_share, is_unset_at, formed, domain_formed, lane_formed}
+use Rattle.board.specs.Sets.{shares_view, spot_of, pattern_of, role_at, is_unset_at, formed, domain_formed, lane_formed}
 use Rattle.board.specs.Slots.{is_free, turn_of, lane_serves}
 use Rattle.board.specs.Boards.{BoardView, board_view, settings_of, with_slot}
 use Rattle.store.specs.Stores.{BacklogView, StoreView, store_view, backlog_view, backlog_at, no_backlog, with_backlog, with_payload, queued, numbered, joined, counted}
 use Rattle.board.proofs.Limits.{Known, known, role, formed_at, not_back, not_back', and_parts, or_false, check_tests, changed_at}
 use Rattle.board.proofs.Roles.{unset_at}
 use Rattle.board.specs.Flights.{lane_at, vertex_in}
-use Rattle.scheduler.specs.Views.{open_stage, vertex_stage, slot_stage, stage_at, start_at, queue_at, serial_at, tables_of, running_of, state_of}
-use Rattle.scheduler.specs.Submits.{held_check, queue_checks, side_checks, turn_at, submit_checks}
+use Rattle.scheduler.specs.Views.{open_stage, slot_stage, stage_at, start_at, queue_at, serial_at, running_of, state_of}
+use Rattle.scheduler.specs.Submits.{queue_checks, side_checks, turn_at, submit_checks}
 use Rattle.scheduler.proofs.Serving.{serves_is}
 
 -- what is known of the tables

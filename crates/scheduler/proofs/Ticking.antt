@@ -1,16 +1,16 @@
 -- What a tick comes to, from what its steps leave.
-use Rattle.std.proofs.Common.{◌≡◌, ℕ, min, Bool, true, false, List, [], length, Some, None, Option, sym, refl, ap, ◌∙◌}
+use Rattle.std.proofs.Common.{◌≡◌, ℕ, min, Bool, true, false, List, length, Some, None, Option, sym, refl, ap, ◌∙◌}
 use Rattle.interface.specs.Meaning.{Meaning}
 use Rattle.model.specs.declared.Line.{Line}
 use Rattle.model.specs.declared.Notice.{Notice}
 use Rattle.model.specs.Settings.{Settings}
 use Rattle.model.specs.Ticks.{lines, notices}
-use Rattle.model.specs.Calls.{Reply, refused, wrote, State, running, Running, Outcome, ticks, tick_refusal, ticked, tick_outcome, unless, outcome}
+use Rattle.model.specs.Calls.{Reply, refused, wrote, running, Running, Outcome, ticks, tick_refusal, ticked, tick_outcome, unless, outcome}
 use Rattle.run_laws.specs.Runs.{notices_in}
 use Rattle.store.specs.Pages.{Page, page, wrote_all, filled}
 use Rattle.store.proofs.Filling.{filled_page, filled_none}
 use Rattle.scheduler.specs.Admits.{tick_checks}
-use Rattle.scheduler.specs.Schedulers.{Told, refusal, counts, told_of, lines_in}
+use Rattle.scheduler.specs.Schedulers.{refusal, counts, told_of, lines_in}
 use Rattle.scheduler.specs.Views.{state_of}
 
 -- ---- refused

@@ -1,5 +1,5 @@
 -- Tables that nothing has happened to since they were made, but for settings.
-use Rattle.std.specs.Prelude.{ℕ, Bool, true, false, not, ◌&&◌, ◌||◌, List, nat_lt}
+use Rattle.std.specs.Prelude.{Bool, true, false, not, ◌&&◌, ◌||◌, List, nat_lt}
 use Rattle.interface.specs.Meaning.{any, is_empty}
 use Rattle.patterns.specs.declared.vertex.Vertex.{Vertex}
 use Rattle.patterns.specs.declared.vertex.VertexState.{VertexState}

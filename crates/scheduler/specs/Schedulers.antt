@@ -1,7 +1,6 @@
 -- A scheduler as a state of the model, and its answers as the model's replies.
 use Rattle.std.specs.Prelude.{ℕ, min, List, [], length, Some, None, Ok, Err, Option, Result}
 use Rattle.model.specs.declared.Line.{Line}
-use Rattle.model.specs.declared.Notice.{Notice}
 use Rattle.model.specs.declared.Refusal.{Refusal}
 use Rattle.model.specs.Refusals.{number}
 use Rattle.model.specs.Refusals as refusals

@@ -1,5 +1,5 @@
 -- The checks of a submit, from the tables.
-use Rattle.std.specs.Prelude.{ℕ, ◌^◌, Bool, not, ◌||◌, List, [], length, Some, None, Option, nat_le, nat_lt, slice_index_or}
+use Rattle.std.specs.Prelude.{ℕ, ◌^◌, not, ◌||◌, [], length, Some, None, Option, nat_le, nat_lt, slice_index_or}
 use Rattle.interface.specs.Meaning.{any, check}
 use Rattle.interface.specs.declared.Kind.{Kind}
 use Rattle.board.specs.declared.slot.OpenSlot.TheVariants.{Free}

@@ -13,7 +13,7 @@ use Rattle.model.specs.Ticks.{Stage, still, flying, done, Tables}
 use Rattle.model.specs.Calls.{State, setting, running, Running}
 use Rattle.board.specs.declared.slot.OpenSlot.{OpenSlot}
 use Rattle.board.specs.declared.slot.OpenSlot.TheVariants.{Free, Held}
-use Rattle.board.specs.Boards.{BoardView, settings_of}
+use Rattle.board.specs.Boards.{BoardView}
 use Rattle.board.specs.Flights.{lane_at, vertex_at}
 use Rattle.store.specs.Stores.{StoreView, backlog_at}
 

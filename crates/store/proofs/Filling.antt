@@ -1,8 +1,8 @@
 -- What is written one by one fills the front of the buffer.
-use Rattle.std.proofs.Common.{◌≡◌, ℕ, zero, suc, ◌+◌, ◌<◌, ◌≤◌, min, Bool, true, false, cond, ltb, List, [], ◌∷◌, ◌++◌, length, take, set, sym, refl, ap, ◌∙◌, add-zero, add-one, arith, length-append}
-use Rattle.std.proofs.lemmas.List.{append-nil, append_assoc, length_push}
+use Rattle.std.proofs.Common.{◌≡◌, ◌+◌, ◌≤◌, min, cond, List, [], ◌∷◌, ◌++◌, length, take, set, sym, refl, ap, ◌∙◌, arith, length-append}
+use Rattle.std.proofs.lemmas.List.{append_assoc, length_push}
 use Rattle.std.proofs.lemmas.Bool.{lt-ltb, le-ltb}
-use Rattle.store.specs.Pages.{Page, page, wrote, wrote_all, filled}
+use Rattle.store.specs.Pages.{page, wrote_all, filled}
 
 set_at : {X : Type 0} (ws : List X) (y x : X) (bs : List X) → set (ws ++ (y ∷ bs)) (length ws) x ≡ (ws ++ (x ∷ [])) ++ bs
 set_at [] y x bs = refl

@@ -1,9 +1,8 @@
 -- The loop over those who leave.
-use Rattle.std.proofs.Common.{◌≡◌, ℕ, ◌+◌, ◌<◌, ◌≤◌, List, [], ◌∷◌, length, get_or, drop, sym, refl, ap, ◌∙◌}
+use Rattle.std.proofs.Common.{◌≡◌, ℕ, ◌+◌, ◌<◌, ◌≤◌, List, [], ◌∷◌, length, get_or, drop}
 use Rattle.std.proofs.lemmas.List.{at_drop_more, at_drop_all}
 use Rattle.interface.specs.declared.Request.{Request}
 use Rattle.model.specs.declared.Letter.TheVariants as letter
-use Rattle.model.specs.declared.Line.{Line}
 use Rattle.store.specs.Stores.{StoreView}
 use Rattle.store.specs.Lines.{line_with, load_for, loaded, all_loaded, load_lines}
 

@@ -3,10 +3,10 @@ use Rattle.std.specs.Prelude.{ℕ, ◌+◌, ◌^◌, cond, not, ◌&&◌, List, 
 use Rattle.interface.specs.declared.Kind.{Kind}
 use Rattle.patterns.specs.Lanes.{changed}
 use Rattle.std.specs.List.{prefix_len}
-use Rattle.model.specs.Ticks.{oldest, without, matches}
+use Rattle.model.specs.Ticks.{without, matches}
 use Rattle.model.specs.declared.Waiting.{Waiting}
 use Rattle.model.specs.declared.Payload.{Payload}
-use Rattle.model.specs.declared.Payload.TheVariants.{Fake, Real}
+use Rattle.model.specs.declared.Payload.TheVariants.{Fake}
 use Rattle.store.specs.declared.backlog.Backlog.{Backlog}
 use Rattle.store.specs.declared.store.Store.{Store}
 

@@ -1,10 +1,10 @@
-use Rattle.std.proofs.Common.{◌≡◌, true, List, length, Some, None, sym, refl, ap, ◌∙◌}
+use Rattle.std.proofs.Common.{List, length, Some, sym, ap, ◌∙◌}
 use Rattle.model.specs.Settings.{all_slots}
 use Rattle.model.specs.Calls.{lane}
 use Rattle.patterns.specs.Lanes.{LaneView, changed}
 use Rattle.patterns.specs.Tables.{table_view, with_lane, table_refusal}
-use Rattle.board.specs.Sets.{settings_by, shares_view, formed}
-use Rattle.board.specs.Boards.{BoardView, board_view}
+use Rattle.board.specs.Sets.{settings_by, formed}
+use Rattle.board.specs.Boards.{board_view}
 use Rattle.board.proofs.Limits.{known, lane_barred, as_refused, lane_not, lane_done, lane_counts, lane_forms, refused_view, accepted_view}
 use Rattle.board.proofs.board.Board.add_lane.Goals as goal
 

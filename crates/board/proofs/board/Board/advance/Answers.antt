@@ -1,10 +1,9 @@
-use Rattle.std.proofs.Common.{◌≡◌, ◌/◌, ◌%◌, List, map, length, sym, refl, ap, ◌∙◌}
+use Rattle.std.proofs.Common.{◌/◌, ◌%◌, List, length, sym, ap, ◌∙◌}
 use Rattle.model.specs.Settings.{Role, all_slots}
-use Rattle.patterns.specs.Lanes.{LaneView, renewed, advanced}
-use Rattle.board.specs.Sets.{settings_by, roles_of, formed}
+use Rattle.patterns.specs.Lanes.{LaneView, advanced}
+use Rattle.board.specs.Sets.{settings_by, formed}
 use Rattle.board.specs.Boards.{board_view}
-use Rattle.board.proofs.Limits.{roles_map, formed_map}
-use Rattle.board.proofs.Moves.{renewed_pattern, advanced_pattern, roles_changed, formed_changed}
+use Rattle.board.proofs.Moves.{advanced_pattern, roles_changed, formed_changed}
 use Rattle.board.proofs.board.Board.advance.Goals as goal
 
 pub invariant_of-self : goal.invariant_of-self

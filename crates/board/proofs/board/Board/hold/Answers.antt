@@ -1,7 +1,7 @@
-use Rattle.std.proofs.Common.{◌≡◌, List, sym, ap, arith}
+use Rattle.std.proofs.Common.{List, sym, ap, arith}
 use Rattle.std.proofs.lemmas.List.{set_past}
 use Rattle.board.specs.declared.slot.OpenSlot.{OpenSlot}
-use Rattle.board.specs.declared.slot.OpenSlot.TheVariants.{Free, Held}
+use Rattle.board.specs.declared.slot.OpenSlot.TheVariants.{Held}
 use Rattle.board.specs.Boards.{board_view}
 use Rattle.board.proofs.board.Board.hold.Goals as goal
 

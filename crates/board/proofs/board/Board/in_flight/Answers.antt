@@ -1,4 +1,4 @@
-use Rattle.std.proofs.Common.{◌≡◌, sym, refl, ap, ◌∙◌, arith}
+use Rattle.std.proofs.Common.{arith}
 use Rattle.board.specs.Boards.{board_view}
 use Rattle.board.proofs.Limits.{known}
 use Rattle.board.proofs.Flying.{flight_past, flight_open, flight_vertex}

@@ -1,4 +1,4 @@
-use Rattle.std.proofs.Common.{◌≡◌, sym, ap, arith}
+use Rattle.std.proofs.Common.{sym, ap, arith}
 use Rattle.std.proofs.lemmas.List.{get_or_past}
 use Rattle.board.specs.Slots.{is_free}
 use Rattle.board.specs.declared.slot.OpenSlot.TheVariants.{Free}

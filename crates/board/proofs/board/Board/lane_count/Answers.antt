@@ -1,4 +1,4 @@
-use Rattle.std.proofs.Common.{◌≡◌, sym, refl, ap, ◌∙◌, arith}
+use Rattle.std.proofs.Common.{arith}
 use Rattle.board.specs.Boards.{board_view}
 use Rattle.board.proofs.Leaves.{few_lanes}
 use Rattle.board.proofs.board.Board.lane_count.Goals as goal

@@ -1,4 +1,4 @@
-use Rattle.std.proofs.Common.{◌≡◌, List, sym, ap, ◌∙◌}
+use Rattle.std.proofs.Common.{List, ap, ◌∙◌}
 use Rattle.interface.specs.Meaning.{any}
 use Rattle.patterns.specs.declared.vertex.Vertex.{Vertex}
 use Rattle.board.specs.Slots.{vertex_serves, lane_at_serves}

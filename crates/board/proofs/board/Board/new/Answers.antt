@@ -1,7 +1,6 @@
-use Rattle.std.proofs.Common.{◌≡◌, ℕ, List, [], map, replicate, None, Option, sym, refl, ap, ◌∙◌}
+use Rattle.std.proofs.Common.{ℕ, List, [], replicate, None, Option, ap, ◌∙◌}
 use Rattle.patterns.specs.Lanes.{LaneView}
 use Rattle.patterns.specs.Tables.{table_view}
-use Rattle.board.specs.declared.share.Share.{Share}
 use Rattle.board.specs.declared.slot.OpenSlot.{OpenSlot}
 use Rattle.board.specs.Sets.{shares_view}
 use Rattle.board.specs.Boards.{free_slots}

@@ -1,9 +1,9 @@
-use Rattle.std.proofs.Common.{◌≡◌, ℕ, List, length, set, Some, None, Option, sym, ap, ◌∙◌, arith}
+use Rattle.std.proofs.Common.{ℕ, List, length, Option, sym, ap, ◌∙◌}
 use Rattle.model.specs.Settings.{all_slots}
 use Rattle.model.specs.Calls.{opens}
 use Rattle.patterns.specs.Tables.{table_view}
-use Rattle.board.specs.Sets.{settings_by, shares_view}
-use Rattle.board.specs.Boards.{BoardView, board_view}
+use Rattle.board.specs.Sets.{settings_by}
+use Rattle.board.specs.Boards.{board_view}
 use Rattle.board.proofs.Limits.{known, open_refusal, open_counts, refused_view, accepted_view, shares_set, share_is}
 use Rattle.board.proofs.board.Board.open.Goals as goal
 

@@ -1,8 +1,8 @@
-use Rattle.std.proofs.Common.{◌≡◌, sym, refl, ap, ◌∙◌}
+use Rattle.std.proofs.Common.{refl, ◌∙◌}
 use Rattle.model.specs.Calls.{first}
 use Rattle.patterns.specs.Tables.{table_view}
 use Rattle.board.specs.Sets.{settings_by, shares_view}
-use Rattle.board.specs.Boards.{BoardView, board_view}
+use Rattle.board.specs.Boards.{board_view}
 use Rattle.board.proofs.Limits.{first_refused, refused_view, accepted_view}
 use Rattle.board.proofs.Totals.{roles_only}
 use Rattle.board.proofs.board.Board.set_first.Goals as goal

@@ -1,4 +1,4 @@
-use Rattle.std.proofs.Common.{◌≡◌, None, arith}
+use Rattle.std.proofs.Common.{None, arith}
 use Rattle.std.specs.Option.{option_map}
 use Rattle.patterns.proofs.Places.{getD_viewed, getD_view_past}
 use Rattle.board.specs.declared.share.Share.{Share}

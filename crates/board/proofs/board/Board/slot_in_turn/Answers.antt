@@ -1,4 +1,4 @@
-use Rattle.std.proofs.Common.{◌≡◌, None, sym, ap, arith}
+use Rattle.std.proofs.Common.{None, sym, ap, arith}
 use Rattle.std.proofs.lemmas.List.{get_or_past}
 use Rattle.board.specs.Boards.{board_view}
 use Rattle.board.specs.Slots.{turn_of}

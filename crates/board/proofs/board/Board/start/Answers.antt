@@ -1,7 +1,7 @@
-use Rattle.std.proofs.Common.{◌≡◌, List, map, length, sym, refl, ap, ◌∙◌}
+use Rattle.std.proofs.Common.{List, length, sym, refl, ap, ◌∙◌}
 use Rattle.model.specs.Settings.{Role, all_slots}
 use Rattle.patterns.specs.Lanes.{LaneView, started}
-use Rattle.board.specs.Sets.{settings_by, roles_of, formed}
+use Rattle.board.specs.Sets.{settings_by, formed}
 use Rattle.board.specs.Boards.{board_view}
 use Rattle.board.proofs.Limits.{roles_map, formed_map}
 use Rattle.board.proofs.board.Board.start.Goals as goal

@@ -1,4 +1,4 @@
-use Rattle.std.proofs.Common.{◌≡◌, true, false, sym, ap, ◌∙◌}
+use Rattle.std.proofs.Common.{true, false, sym, ap, ◌∙◌}
 use Rattle.patterns.proofs.Looks.{any_front, any_end}
 use Rattle.board.specs.Slots.{vertex_serves}
 use Rattle.board.proofs.board.protected.has_vertex.Goals as goal

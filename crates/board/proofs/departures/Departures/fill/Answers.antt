@@ -1,4 +1,4 @@
-use Rattle.std.proofs.Common.{◌≡◌, ◌+◌, ◌<◌, ◌≤◌, List, [], ◌++◌, length, get_or, drop, None, vec_items, vec_capacity, sym, refl, ap, ◌∙◌, arith}
+use Rattle.std.proofs.Common.{◌+◌, [], get_or, drop, None, vec_items, sym, ap, ◌∙◌, arith}
 use Rattle.board.specs.Boards.{board_view}
 use Rattle.board.specs.Sets.{formed}
 use Rattle.board.specs.Leaving.{domain_leaving, domains_leaving, all_added, board_leaving}

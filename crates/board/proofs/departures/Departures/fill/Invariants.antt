@@ -1,4 +1,4 @@
-use Rattle.std.proofs.Common.{◌≡◌, [], drop, vec_items, vec_capacity}
+use Rattle.std.proofs.Common.{◌≡◌, [], drop, vec_items}
 use Rattle.board.specs.Boards.{board_view}
 use Rattle.board.specs.Leaving.{domains_leaving, all_added, board_leaving}
 use Rattle.board.proofs.departures.Departures.fill.Given as goal

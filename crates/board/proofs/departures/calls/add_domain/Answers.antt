@@ -1,7 +1,7 @@
-use Rattle.std.proofs.Common.{◌≡◌, ◌+◌, ◌*◌, ◌≤◌, List, [], ◌++◌, length, get_or, drop, None, vec_items, vec_capacity, sym, refl, ap, ◌∙◌, arith}
+use Rattle.std.proofs.Common.{◌+◌, ◌*◌, [], get_or, drop, None, vec_items, vec_capacity, sym, refl, ap, ◌∙◌, arith}
 use Rattle.patterns.specs.Lanes.{lane_view}
 use Rattle.board.specs.Boards.{board_view}
-use Rattle.board.specs.Leaving.{lane_leaving, lanes_leaving, domain_leaving, all_added}
+use Rattle.board.specs.Leaving.{lane_leaving, lanes_leaving, all_added}
 use Rattle.board.proofs.Leaves.{lanes_front, lanes_none, no_lane, open_none, closed_lanes, none_added, all_added_append}
 use Rattle.board.proofs.departures.calls.add_domain.Goals as goal
 use Rattle.board.proofs.departures.calls.add_domain.Goals.{in-Some, in_default}

@@ -1,4 +1,4 @@
-use Rattle.std.proofs.Common.{◌≡◌, ◌+◌, List, drop, vec_items, vec_capacity, sym, refl, ap, ◌∙◌}
+use Rattle.std.proofs.Common.{◌+◌, List, drop, vec_items, vec_capacity, sym, ap, ◌∙◌}
 use Rattle.patterns.specs.declared.vertex.Vertex.{Vertex}
 use Rattle.patterns.specs.Lanes.{lane_view}
 use Rattle.board.specs.Leaving.{lane_leaving, request_from, all_added}

@@ -1,4 +1,3 @@
-use Rattle.std.proofs.Common.{◌≡◌, refl}
 use Rattle.board.specs.Boards.{board_view, settings_of}
 use Rattle.store.specs.Stores.{store_view}
 use Rattle.scheduler.specs.Views.{running_of}

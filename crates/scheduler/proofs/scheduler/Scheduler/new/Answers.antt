@@ -1,7 +1,7 @@
-use Rattle.std.proofs.Common.{◌≡◌, ℕ, List, ap, ◌∙◌}
+use Rattle.std.proofs.Common.{ap, ◌∙◌}
 use Rattle.model.specs.Settings.{Settings, blank}
 use Rattle.model.specs.Calls.{setting}
-use Rattle.board.specs.Boards.{board_view, settings_of}
+use Rattle.board.specs.Boards.{board_view}
 use Rattle.store.specs.Stores.{store_view}
 use Rattle.scheduler.proofs.Begins.{fresh_new, blank_is}
 use Rattle.scheduler.proofs.scheduler.Scheduler.new.Goals as goal

@@ -1,10 +1,9 @@
-use Rattle.std.proofs.Common.{◌≡◌, ℕ, refl}
+use Rattle.std.proofs.Common.{refl}
 use Rattle.model.specs.Refusals as refusals
 use Rattle.model.specs.Calls.{opens}
 use Rattle.board.specs.Boards.{board_view, settings_of}
 use Rattle.store.specs.Stores.{store_view}
-use Rattle.board.proofs.Limits.{known, lane_sets}
-use Rattle.board.proofs.Roles.{open_settled, first_settled}
+use Rattle.board.proofs.Roles.{open_settled}
 use Rattle.scheduler.specs.Views.{running_of}
 use Rattle.scheduler.proofs.Begins.{fresh_kept}
 use Rattle.scheduler.proofs.Outcomes.{late_after, late_reply, set_reply, set_after}

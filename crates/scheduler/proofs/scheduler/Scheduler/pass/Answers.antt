@@ -1,4 +1,4 @@
-use Rattle.std.proofs.Common.{◌≡◌, List, sym, refl, ap, ◌∙◌, add-one}
+use Rattle.std.proofs.Common.{List, sym, refl, ap, ◌∙◌, add-one}
 use Rattle.interface.specs.Meaning.{after, Call}
 use Rattle.interface.specs.declared.Request.{Request}
 use Rattle.board.specs.Boards.{board_view}

@@ -1,4 +1,4 @@
-use Rattle.std.proofs.Common.{◌≡◌, length, ap, ◌∙◌}
+use Rattle.std.proofs.Common.{length, ap, ◌∙◌}
 use Rattle.model.specs.Calls.{sets, opens, lane, first, begins, submit, ticks}
 use Rattle.scheduler.specs.Histories.{made_call}
 use Rattle.scheduler.specs.Schedulers.{view, replied, serial_reply}

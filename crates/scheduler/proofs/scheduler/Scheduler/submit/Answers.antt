@@ -1,4 +1,4 @@
-use Rattle.std.proofs.Common.{◌≡◌, get_or, None, sym, refl, ap, ◌∙◌}
+use Rattle.std.proofs.Common.{get_or, None, ap, ◌∙◌}
 use Rattle.board.specs.Boards.{board_view, settings_of}
 use Rattle.store.specs.Stores.{store_view}
 use Rattle.scheduler.specs.Views.{running_of}

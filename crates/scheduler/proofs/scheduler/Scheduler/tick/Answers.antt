@@ -1,10 +1,8 @@
-use Rattle.std.proofs.Common.{◌≡◌, ℕ, List, length, sym, refl, ap, ◌∙◌}
-use Rattle.model.specs.declared.Line.{Line}
-use Rattle.model.specs.declared.Notice.{Notice}
+use Rattle.std.proofs.Common.{◌≡◌, length, sym, ap, ◌∙◌}
 use Rattle.model.specs.Settings.{Settings}
 use Rattle.model.specs.Refusals.{number}
 use Rattle.model.specs.Ticks.{lines, notices}
-use Rattle.model.specs.Calls.{Running, running, ticked, outcome, ticks}
+use Rattle.model.specs.Calls.{running, ticked, outcome, ticks}
 use Rattle.board.specs.Boards.{board_view, settings_of}
 use Rattle.store.specs.Pages.{page, wrote_all}
 use Rattle.store.specs.Stores.{store_view}

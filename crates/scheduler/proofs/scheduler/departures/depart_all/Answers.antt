@@ -1,4 +1,4 @@
-use Rattle.std.proofs.Common.{◌≡◌, sym, ap, ◌∙◌}
+use Rattle.std.proofs.Common.{◌∙◌}
 use Rattle.interface.specs.declared.Kind.TheVariants.{Read}
 use Rattle.interface.specs.declared.Request.{Request}
 use Rattle.board.specs.Boards.{board_view}

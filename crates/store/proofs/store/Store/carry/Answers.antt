@@ -1,4 +1,4 @@
-use Rattle.std.proofs.Common.{◌≡◌, List, sym, ap, arith}
+use Rattle.std.proofs.Common.{List, sym, ap, arith}
 use Rattle.std.proofs.lemmas.List.{set_past}
 use Rattle.model.specs.declared.Payload.{Payload}
 use Rattle.store.specs.Stores.{store_view}

@@ -1,6 +1,6 @@
-use Rattle.std.proofs.Common.{◌≡◌, List, length, ap, ◌∙◌, arith}
+use Rattle.std.proofs.Common.{List, ap, arith}
 use Rattle.patterns.proofs.Places.{viewed, view_past}
-use Rattle.store.specs.Stores.{BacklogView, backlog_view, joined, counted}
+use Rattle.store.specs.Stores.{BacklogView, backlog_view, counted}
 use Rattle.store.proofs.store.Store.count.Goals as goal
 
 pub returns-then-domain-len : goal.returns-then-domain-len

@@ -1,4 +1,4 @@
-use Rattle.std.proofs.Common.{◌≡◌, List, ap, ◌∙◌, arith}
+use Rattle.std.proofs.Common.{List, ap, ◌∙◌, arith}
 use Rattle.model.specs.Ticks.{oldest}
 use Rattle.patterns.proofs.Places.{viewed, view_past, getD_viewed, getD_view_past}
 use Rattle.store.specs.Stores.{BacklogView, backlog_view, no_backlog, unqueued}

@@ -1,8 +1,8 @@
-use Rattle.std.proofs.Common.{◌≡◌, ◌+◌, List, ◌∷◌, get_or, drop, sym, refl, ap, ◌∙◌}
+use Rattle.std.proofs.Common.{◌+◌, List, get_or, drop, sym, ap, ◌∙◌}
 use Rattle.interface.specs.declared.Kind.TheVariants.{Read}
 use Rattle.interface.specs.declared.Request.{Request}
 use Rattle.model.specs.declared.Line.{Line}
-use Rattle.store.specs.Pages.{Page, page, wrote_all}
+use Rattle.store.specs.Pages.{page, wrote_all}
 use Rattle.store.specs.Stores.{StoreView, store_view}
 use Rattle.store.specs.Lines.{loaded, all_loaded, load_lines}
 use Rattle.store.proofs.Loads.{loaded_front, lines_front, loaded_end, lines_end}

@@ -1,4 +1,4 @@
-use Rattle.std.proofs.Common.{◌≡◌, length, ap, ◌∙◌, arith}
+use Rattle.std.proofs.Common.{ap, ◌∙◌, arith}
 use Rattle.patterns.proofs.Places.{getD_viewed, getD_view_past}
 use Rattle.store.specs.Stores.{BacklogView, backlog_view, no_backlog}
 use Rattle.store.proofs.store.Store.serial.Goals as goal
