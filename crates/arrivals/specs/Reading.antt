@@ -1,8 +1,8 @@
 -- What a line says.
-use Rattle.std.specs.Prelude.{ℕ, Bool, cond, List, [], ◌∷◌, Some, None, Ok, Err, Option, Result, ◌==◌, nat_lt}
+use Rattle.std.specs.Prelude.{ℕ, cond, List, [], ◌∷◌, Some, None, Ok, Err, Result, ◌==◌, nat_lt}
 use Rattle.interface.specs.declared.Kind.{Kind}
 use Rattle.interface.specs.declared.Kind.TheVariants.{Read, Write}
-use Rattle.tokens.specs.Lexemes.{Lexeme, opens, closes, word, number, Answer, Cursor, at_start, next_lexeme, moved}
+use Rattle.tokens.specs.Lexemes.{opens, closes, word, number, Answer, Cursor, at_start, next_lexeme, moved}
 use Rattle.arrivals.specs.declared.reading.Arrival.{Arrival}
 use Rattle.arrivals.specs.declared.reading.Complaint.{Complaint}
 use Rattle.arrivals.specs.declared.reading.Complaint.TheVariants.{NoToken, NoNumber, NoKind, TooLate, TooHigh, TooLong}

@@ -1,9 +1,9 @@
 -- A line that holds more than a form, where a line ends, and what the reader then gives.
-use Rattle.std.proofs.Common.{◌≡◌, ℕ, ◌≤◌, Bool, true, false, cond, ltb, leb, List, [], ◌∷◌, length, take, drop, IfOk, Some, None, Option, Result, sym, refl, ap, ◌∙◌, arith, length-drop, ltb-false, leb-false}
+use Rattle.std.proofs.Common.{◌≡◌, ℕ, ◌≤◌, Bool, true, false, ltb, leb, List, [], ◌∷◌, length, take, drop, IfOk, Some, None, Option, Result, sym, refl, ap, ◌∙◌, arith, length-drop, ltb-false, leb-false}
 use Rattle.std.proofs.lemmas.List.Sums.{prefix_len-le-length}
 use Rattle.forms.specs.Signs.{Sign, parsed, uncons}
 use Rattle.forms.specs.Contents.{Content}
-use Rattle.forms.specs.Forms.{form_in, form_of, all_of, alone}
+use Rattle.forms.specs.Forms.{form_in, form_of, all_of}
 use Rattle.forms.specs.Lines.{in_line, line_end, line_after, past_end, Place, read, ended, line_read, next_read, next_place}
 use Rattle.forms.specs.declared.reader.Reading.{Reading}
 use Rattle.std.proofs.lemmas.Result.{IfOk-weaker}

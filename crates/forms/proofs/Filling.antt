@@ -1,13 +1,13 @@
 -- The lists of a lane are its next part before the lists behind it.
-use Rattle.std.proofs.Common.{◌≡◌, ℕ, zero, suc, ◌+◌, ◌<◌, ◌≤◌, Bool, true, false, cond, List, [], ◌∷◌, ◌++◌, length, Some, None, codes, Option, sym, refl, ap, ◌∙◌, subst, arith}
+use Rattle.std.proofs.Common.{◌≡◌, ℕ, zero, suc, ◌<◌, ◌≤◌, Bool, true, false, cond, List, [], ◌∷◌, ◌++◌, length, Some, None, codes, Option, sym, refl, ap, ◌∙◌, subst, arith}
 use Rattle.std.specs.Str.{bytes_eq}
 use Rattle.forms.specs.declared.values.Vertex.{Vertex}
 use Rattle.forms.specs.declared.values.Edge.{Edge}
 use Rattle.forms.specs.declared.lanes.Part.{Part}
 use Rattle.forms.specs.declared.lanes.Part.TheVariants as part
-use Rattle.forms.specs.Signs.{Sign, opens, closes, word, number, Parsed, parsed, uncons}
-use Rattle.forms.specs.Parts.{then, one, opened, closed, the_number, the_word, kind_of_word, number_in, word_in, close_in, kind_in}
-use Rattle.forms.specs.Lanes.{vertex_in, edge_in, worded_part, inner_part_in, part_by, part_in, no_edges, Lists, with_part, lists_within, lists_in}
+use Rattle.forms.specs.Signs.{Sign, opens, closes, word, number, Parsed, parsed}
+use Rattle.forms.specs.Parts.{then, one, closed, the_number, the_word, kind_of_word, number_in, word_in, close_in, kind_in}
+use Rattle.forms.specs.Lanes.{vertex_in, edge_in, worded_part, inner_part_in, part_in, no_edges, Lists, with_part, lists_within, lists_in}
 
 -- fewer than n signs are left
 abbrev pub Shorter : {A : Type 0} → ℕ → Parsed A → Type 0

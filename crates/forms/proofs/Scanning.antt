@@ -1,9 +1,9 @@
 -- The scan of a text is the next lexeme before the scan of what is behind it.
-use Rattle.std.proofs.Common.{◌≡◌, ℕ, zero, suc, ◌+◌, ◌-◌, ◌<◌, ◌≤◌, Bool, true, false, cond, List, [], ◌∷◌, length, get_or, is_some, Some, None, Ok, Err, Decides, Option, sym, refl, ap, ◌∙◌, subst, arith}
+use Rattle.std.proofs.Common.{◌≡◌, ℕ, zero, suc, ◌<◌, ◌≤◌, Bool, true, false, List, [], ◌∷◌, length, is_some, Some, None, Ok, Err, Decides, Option, sym, refl, ap, ◌∙◌, subst, arith}
 use Rattle.std.proofs.lemmas.Bool.{le-ltb, cond-false}
 use Rattle.tokens.specs.declared.lexer.Token.{Token}
 use Rattle.tokens.specs.declared.lexer.Fault.{Fault}
-use Rattle.tokens.specs.Lexemes.{Lexeme, lexeme, seen, Answer, Cursor, start_of, lexeme_at, lexed, lexed_to, next_lexeme, moved}
+use Rattle.tokens.specs.Lexemes.{Lexeme, lexeme, seen, Answer, Cursor, start_of, lexed, next_lexeme, moved}
 use Rattle.forms.specs.Signs.{Scan, with_next, scanned_within, scanned, unread, sign, token_sign, parsed, uncons}
 use Rattle.std.specs.Option.{option_map}
 use Rattle.forms.proofs.Progress.{some_inside, some_moves}

@@ -1,18 +1,17 @@
 -- What spells a form reads as that form.
-use Rattle.std.proofs.Common.{◌≡◌, ℕ, List, [], ◌∷◌, ◌++◌, Some, None, sym, refl, ap, ◌∙◌, append_assoc, append-nil}
+use Rattle.std.proofs.Common.{◌≡◌, ℕ, List, [], ◌∷◌, ◌++◌, Some, sym, refl, ap, ◌∙◌, append_assoc, append-nil}
 use Rattle.interface.specs.declared.Kind.{Kind}
 use Rattle.interface.specs.declared.Kind.TheVariants.{Read, Write}
 use Rattle.forms.specs.declared.values.Policy.TheVariants.{FirstCome, Turns}
-use Rattle.forms.specs.declared.values.Submission.{Submission}
 use Rattle.forms.specs.declared.values.Vertex.{Vertex}
 use Rattle.forms.specs.declared.values.Edge.{Edge}
 use Rattle.forms.specs.declared.lanes.Part.TheVariants as part
 use Rattle.forms.specs.Signs.{Sign, closes}
-use Rattle.forms.specs.Contents.{Content, controller, share, lane, first, begin, submit, ticks}
+use Rattle.forms.specs.Contents.{controller, share, lane, first, begin, submit, ticks}
 use Rattle.forms.specs.Parts.{then}
 use Rattle.forms.specs.Lanes.{part_in, lists_in, Lists}
 use Rattle.forms.specs.Forms.{form_of, all_of}
-use Rattle.forms.specs.Spelling.{spelled, vertex_signs, edge_signs, vertices_before, edges_before, ReadsBack}
+use Rattle.forms.specs.Spelling.{spelled, vertex_signs, vertices_before, edges_before, ReadsBack}
 use Rattle.forms.proofs.Filling.{on_end, on_vertex, on_edge}
 
 vertex_part : (b : ℕ) (k : Kind) (ts : List Sign) → Some (part.Vertex (record { bank = b; kind = k }), ts) ≡ part_in (vertex_signs b k ts)

@@ -1,5 +1,5 @@
 -- The lane: its head, its vertices, and then its edges, any number of each.
-use Rattle.std.specs.Prelude.{ℕ, zero, suc, Bool, true, false, cond, List, [], ◌∷◌, ◌++◌, length, Some, None, vec_items, codes, Option, ◌==◌}
+use Rattle.std.specs.Prelude.{ℕ, zero, suc, Bool, true, false, cond, List, [], ◌∷◌, ◌++◌, length, Some, None, vec_items, codes, ◌==◌}
 use Rattle.std.specs.Str.{bytes_eq}
 use Rattle.forms.specs.declared.values.Vertex.{Vertex}
 use Rattle.forms.specs.declared.values.Edge.{Edge}
@@ -7,7 +7,7 @@ use Rattle.forms.specs.declared.values.Lane.{Lane}
 use Rattle.forms.specs.declared.lanes.Head.{Head}
 use Rattle.forms.specs.declared.lanes.Part.{Part}
 use Rattle.forms.specs.declared.lanes.Part.TheVariants as part
-use Rattle.forms.specs.Signs.{Sign, opens, closes, word, number, Parsed, parsed, uncons}
+use Rattle.forms.specs.Signs.{Sign, opens, closes, word, number, Parsed, uncons}
 use Rattle.forms.specs.Parts.{then, number_in, word_in, close_in, kind_in, field_in}
 use Rattle.forms.specs.Contents.{Content}
 use Rattle.forms.specs.Contents as content

@@ -1,11 +1,9 @@
 -- The signs that spell a form: the grammar, form by form.
-use Rattle.std.specs.Prelude.{◌≡◌, ℕ, List, [], ◌∷◌, ◌++◌, Some, codes}
+use Rattle.std.specs.Prelude.{◌≡◌, ℕ, List, [], ◌∷◌, Some, codes}
 use Rattle.interface.specs.declared.Kind.{Kind}
 use Rattle.interface.specs.declared.Kind.TheVariants.{Read, Write}
 use Rattle.forms.specs.declared.values.Policy.{Policy}
 use Rattle.forms.specs.declared.values.Policy.TheVariants.{FirstCome, Turns}
-use Rattle.forms.specs.declared.values.Share.{Share}
-use Rattle.forms.specs.declared.values.Submission.{Submission}
 use Rattle.forms.specs.declared.values.Vertex.{Vertex}
 use Rattle.forms.specs.declared.values.Edge.{Edge}
 use Rattle.forms.specs.Signs.{Sign, opens, closes, word, number}

@@ -8,7 +8,7 @@ use Rattle.interface.specs.declared.Kind.{Kind}
 use Rattle.patterns.specs.Shape.{shape_checks, vertex_count, high_bank, bad_edges}
 use Rattle.patterns.specs.declared.setting.EdgeSetting.{EdgeSetting}
 use Rattle.patterns.specs.declared.setting.VertexSetting.{VertexSetting}
-use Rattle.model.specs.Calls.{Setting, opens, lane, first, Call, sets, begins, submit, ticks, refused, good, serial, Running, State, setting, running, new, next_tick, limit, settled, too_many, setting_refusal, started, serves, slot_in_turn, role_refusal, submit_refusal, enqueued, taken_open, submitted, tick_refusal, ticked, Outcome, unless, submit_outcome, tick_outcome, outcome}
+use Rattle.model.specs.Calls.{Setting, opens, lane, first, Call, sets, begins, submit, ticks, refused, good, Running, State, setting, running, new, next_tick, limit, settled, too_many, setting_refusal, started, serves, slot_in_turn, role_refusal, submit_refusal, enqueued, taken_open, submitted, tick_refusal, ticked, Outcome, unless, submit_outcome, tick_outcome, outcome}
 use Rattle.model.specs.Settings.{Role, unset, opened, protected, Settings, role_of, is_unset, is_opened, patterns_of, vertices}
 use Rattle.model.specs.Ticks.{put, is_still}
 use Rattle.run_laws.specs.Laws.{NeverRefused, SmallReply, SmallEntry, Limits}

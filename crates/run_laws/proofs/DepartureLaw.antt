@@ -11,7 +11,7 @@ use Rattle.patterns.specs.Due.{round_end, next_start, longest_round}
 use Rattle.patterns.specs.declared.edge.Edge.{Edge}
 use Rattle.model.specs.Calls.{Call, sets, begins, submit, ticks, good, Running, setting, running, settled, setting_refusal, started, slot_in_turn, submit_refusal, enqueued, taken_open, submitted, submit_lines, tick_refusal, ticked, submit_outcome, tick_outcome, outcome}
 use Rattle.model.specs.Settings.{Role, unset, opened, protected, Settings, role_of, pattern_at, lane_vertices}
-use Rattle.model.specs.Ticks.{Stage, flying, done_tick, is_still, is_due, lane_end, finished, renewed, written, event_line, take_line, completed, departed, through, step_events, after_rounds, after_tick, controller_after, taken_all, lines}
+use Rattle.model.specs.Ticks.{Stage, flying, done_tick, is_still, is_due, lane_end, finished, renewed, written, event_line, take_line, completed, departed, through, step_events, after_tick, controller_after, taken_all, lines}
 use Rattle.model.specs.declared.Letter.TheVariants as letter
 use Rattle.model.specs.declared.Line.{Line}
 use Rattle.model.specs.declared.Payload.TheVariants.{Real}

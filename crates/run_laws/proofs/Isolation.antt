@@ -9,7 +9,7 @@ use Rattle.interface.specs.Meaning.{Meaning}
 use Rattle.interface.specs.declared.Event.TheVariants.{Done, Issue}
 use Rattle.interface.specs.declared.Event.{Event}
 use Rattle.interface.specs.declared.Kind.{Kind}
-use Rattle.model.specs.Calls.{Call, Running, State, begins, enqueued, new, next_tick, outcome, role_refusal, running, serial, sets, setting, slot_in_turn, submit, submit_outcome, submit_refusal, submitted, taken_open, tick_outcome, tick_refusal, ticked, ticks, unless}
+use Rattle.model.specs.Calls.{Call, Running, State, begins, enqueued, new, next_tick, outcome, role_refusal, running, sets, setting, slot_in_turn, submit, submit_outcome, submit_refusal, submitted, taken_open, tick_outcome, tick_refusal, ticked, ticks, unless}
 use Rattle.model.specs.Settings.{blank, Role, Settings, domain_of, is_open, is_opened, opened, protected, role_of, unset}
 use Rattle.model.specs.Ticks.{Stage, Tables, completed, done, event_notice, flying, notice_of, notices, payload_notice, put, step_events, still}
 use Rattle.model.specs.declared.Notice.{Notice}

@@ -5,7 +5,7 @@ use Rattle.std.proofs.lemmas.Bool.{eqb-true, eq-eqb, ne_eqb, true≢false, cases
 use Rattle.interface.specs.Lawful.{Lawful}
 use Rattle.interface.specs.declared.Kind.{Kind}
 use Rattle.patterns.specs.Due.{all_weights}
-use Rattle.model.specs.Calls.{Call, Running, begins, enqueued, good, outcome, running, serial, sets, slot_in_turn, submit, submit_outcome, submit_refusal, submitted, taken_open, tick_outcome, tick_refusal, ticked, ticks}
+use Rattle.model.specs.Calls.{Call, Running, begins, enqueued, outcome, running, sets, slot_in_turn, submit, submit_outcome, submit_refusal, submitted, taken_open, tick_outcome, tick_refusal, ticked, ticks}
 use Rattle.model.specs.Settings.{Role, Settings, domain_of, is_open, is_opened, opened, pattern_at, protected, role_of, unset}
 use Rattle.model.specs.Ticks.{is_still, notices, put}
 use Rattle.model.specs.declared.Waiting.{Waiting}

@@ -1,4 +1,4 @@
-use Rattle.std.proofs.Common.{◌≡◌, ap, ◌∙◌, arith}
+use Rattle.std.proofs.Common.{ap, ◌∙◌, arith}
 use Rattle.tally.specs.Counts.{is_taken, is_issued, is_done}
 use Rattle.tally.proofs.Step.{one, same, all}
 use Rattle.tally.proofs.count.Goals as goal

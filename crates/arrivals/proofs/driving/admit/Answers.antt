@@ -1,4 +1,4 @@
-use Rattle.std.proofs.Common.{◌≡◌, sym, ap, ◌∙◌, arith}
+use Rattle.std.proofs.Common.{sym, ◌∙◌, arith}
 use Rattle.interface.specs.declared.Kind.TheVariants.{Read}
 use Rattle.arrivals.specs.declared.reading.Arrival.{Arrival}
 use Rattle.arrivals.proofs.Admitting.{one_taken, none_taken, none_left}

@@ -1,6 +1,5 @@
-use Rattle.std.proofs.Common.{◌≡◌, suc, ◌+◌, ◌<◌, ◌≤◌, min, [], ◌∷◌, length, set, sym, ap, ◌∙◌, add-one, arith, length-set}
+use Rattle.std.proofs.Common.{◌<◌, ◌≤◌, length, set, sym, ap, ◌∙◌, add-one, arith, length-set}
 use Rattle.interface.specs.Emptied.{emptied}
-use Rattle.arrivals.specs.Driving.{filled}
 use Rattle.interface.proofs.Emptying.{turn_ready, turn_emptied, last_after, first_none}
 use Rattle.arrivals.proofs.Filling.{filled_at, filled_at_more, filled_at_full, filled_at_end}
 use Rattle.arrivals.proofs.driving.drain.Goals as goal

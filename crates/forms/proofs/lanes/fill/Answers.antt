@@ -1,6 +1,6 @@
-use Rattle.std.proofs.Common.{◌≡◌, List, [], ◌∷◌, ◌++◌, Some, vec_items, sym, ap, ◌∙◌}
+use Rattle.std.proofs.Common.{Some, vec_items, sym, ap, ◌∙◌}
 use Rattle.forms.specs.Signs.{ahead}
-use Rattle.forms.specs.Lanes.{lists_in, part_in}
+use Rattle.forms.specs.Lanes.{lists_in}
 use Rattle.forms.proofs.Filling.{on_no_part, on_end, on_vertex, on_late_vertex, on_edge}
 use Rattle.forms.proofs.lanes.fill.Goals as goal
 

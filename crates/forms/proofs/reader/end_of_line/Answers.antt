@@ -1,4 +1,4 @@
-use Rattle.std.proofs.Common.{◌≡◌, true, false, not, get_or, ap, arith, eq-eqb, ne_eqb}
+use Rattle.std.proofs.Common.{not, get_or, ap, arith, eq-eqb, ne_eqb}
 use Rattle.std.proofs.lemmas.List.Sums.{prefix_len-drop_yes, prefix_len-drop_no, prefix_len-drop_all}
 use Rattle.forms.specs.Lines.{in_line}
 use Rattle.forms.proofs.reader.end_of_line.Goals as goal

@@ -1,5 +1,5 @@
 -- What is left of the digits after each one gives the same value.
-use Rattle.std.proofs.Common.{◌≡◌, ◌+◌, ◌*◌, drop, sym, ap, ◌∙◌}
+use Rattle.std.proofs.Common.{◌+◌, ◌*◌, drop, sym, ap, ◌∙◌}
 use Rattle.tokens.specs.Numbers.{value_from}
 use Rattle.tokens.proofs.Values.{zero_first, too_large, in_range, step, not_above}
 use Rattle.tokens.proofs.numbers.number.Goals as goal

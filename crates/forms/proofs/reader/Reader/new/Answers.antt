@@ -1,5 +1,4 @@
-use Rattle.std.proofs.Common.{◌≡◌, sym, ap, ◌∙◌, rules}
-use Rattle.std.proofs.lemmas.Bool.{cond-true, cond-false}
+use Rattle.std.proofs.Common.{rules}
 use Rattle.forms.proofs.Spelling.{reads_back}
 use Rattle.forms.proofs.reader.Reader.new.Goals as goal
 

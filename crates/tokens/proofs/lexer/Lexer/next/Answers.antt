@@ -1,5 +1,5 @@
 -- Each way through the lexer gives the next lexeme and goes on behind it.
-use Rattle.std.proofs.Common.{◌≡◌, ◌≤◌, length, sym, refl, ap, ◌∙◌, arith}
+use Rattle.std.proofs.Common.{◌≤◌, length, refl, arith}
 use Rattle.tokens.specs.declared.runs.Class.TheVariants.{Letter, Digit}
 use Rattle.tokens.specs.Classes.{in_class}
 use Rattle.tokens.proofs.Lexing.{run_within, opened, closed, worded, numbered, misnumbered}
