@@ -43,6 +43,13 @@ pub record Good (m n : Meaning (List ℕ)) (s : State) : Type 0 where
   pub ready : Ready done_below s.table.events s.table.held
   pub traced : Traced slot_of_entry done_below s.table.events s.table.held
 
+-- what the laws need of a pair's span: it goes by the spans of the two, is as long as each, and fits
+pub record Spans (m n : Meaning (List ℕ)) : Type 0 where
+  pub same : (s t : State) → m.span s.first ≡ m.span t.first → n.span s.second ≡ n.span t.second → span_of m n s ≡ span_of m n t
+  pub first : (s : State) → m.span s.first ≤ span_of m n s
+  pub second : (s : State) → n.span s.second ≤ span_of m n s
+  pub fits : (s : State) → span_of m n s < 2 ^ 64
+
 module _ (m n : Meaning (List ℕ)) (k : Lawful m) (l : Lawful n) (short : (s : List ℕ) → m.span s < 2 ^ 64) (brief : (s : List ℕ) → n.span s < 2 ^ 64) where
   abbrev r : Meaning State
   r = meaning_of m n
@@ -184,22 +191,13 @@ module _ (m n : Meaning (List ℕ)) (k : Lawful m) (l : Lawful n) (short : (s : 
 
   -- ---- the laws
 
-  span_tidy : (s : State) → span_of m n (tidy s) ≡ span_of m n s
-  span_tidy s = ap (λ x. max x (n.span (below_after n l s.second))) (span_step m k s.first) ∙ ap (max (m.span s.first)) (span_step n l s.second)
+  span_first : (b : Bool) (s : State) (q : Request) → m.span (cond b (after m (Call.take q) s.first) s.first) ≡ m.span s.first
+  span_first true s q = span_after m k (Call.take q) s.first
+  span_first false s q = refl
 
-  span_fits : (s : State) → span_of m n s < 2 ^ 64
-  span_fits s = let h = short s.first in let j = brief s.second in omega arith
-
-  held_tidy : (s : State) → r.held (tidy s) ≡ map (aged (of_both s)) (r.held s)
-  held_tidy s =
-      ap (λ x. map (reading x) (map (moved (of_both s)) s.table.held)) (span_tidy s)
-      ∙ map_moved (span_of m n s) (of_both s) (of_both s) s.table.held (span_fits s) (λ i. refl)
-
-  punctual_tidy : (s : State) → Good m n s → Ready done_below [] s.table.held → Punctual (r.held (tidy s)) (of_both s)
-  punctual_tidy s g d =
-      subst (λ x. Punctual (map (reading x) (map (moved (of_both s)) s.table.held)) (of_both s)) (sym (span_tidy s))
-      (punctual_both not_first (m.span s.first) (n.span s.second) (span_of m n s) (of_first s) (of_second s) s.table.held (span_fits s) (omega arith) (omega arith) d
-      (punctual_received m k not_first s.first s.table.held g.one) (punctual_received n l not_second s.second s.table.held g.two))
+  span_second : (b : Bool) (s : State) (q : Request) → n.span (cond b s.second (after n (Call.take q) s.second)) ≡ n.span s.second
+  span_second true s q = refl
+  span_second false s q = span_after n l (Call.take q) s.second
 
   start_path : (a b c d : List ℕ) → a ≡ c → b ≡ d → beginning a b ≡ beginning c d
   start_path a b c d p q = ap (λ x. beginning x b) p ∙ ap (beginning c) q
@@ -222,36 +220,56 @@ module _ (m n : Meaning (List ℕ)) (k : Lawful m) (l : Lawful n) (short : (s : 
   fixed Call.step s = fixed_step s (step_refusal r s)
   fixed Call.collect s = elim (is_empty s.table.events) as (λ b. r.start (cond b s (r.collected s)) ≡ r.start s) [ true ↦ refl | false ↦ refl ]
 
-  span_taken : (s : State) (q : Request) (b : Bool) → max (m.span (cond b (after m (Call.take q) s.first) s.first)) (n.span (cond b s.second (after n (Call.take q) s.second))) ≡ span_of m n s
-  span_taken s q true = ap (λ x. max x (n.span s.second)) (span_after m k (Call.take q) s.first)
-  span_taken s q false = ap (max (m.span s.first)) (span_after n l (Call.take q) s.second)
+  module _ (spans : Spans m n) where
+    span_tidy : (s : State) → span_of m n (tidy s) ≡ span_of m n s
+    span_tidy s = spans.same (tidy s) s (span_step m k s.first) (span_step n l s.second)
 
-  taken_last : (s : State) (q : Request) → r.held (r.taken s q) ≡ r.held s ++ (fresh q (span_of m n s) ∷ [])
-  taken_last s q =
-      let p = span_of m n s in
-      ap (λ x. map (reading x) (s.table.held ++ (new_entry q ∷ []))) (span_taken s q (to_first q)) ∙ map_append (reading p) s.table.held (new_entry q) ∙ ap (λ e. map (reading p) s.table.held ++ (e ∷ [])) (new_reading q p)
+    held_tidy : (s : State) → r.held (tidy s) ≡ map (aged (of_both s)) (r.held s)
+    held_tidy s =
+        ap (λ x. map (reading x) (map (moved (of_both s)) s.table.held)) (span_tidy s)
+        ∙ map_moved (span_of m n s) (of_both s) (of_both s) s.table.held (spans.fits s) (λ i. refl)
 
-  laws_of : Lawful r
-  laws_of = record {
-    start_held = λ s. refl;
-    start_ready = λ s. refl;
-    start_fixed = fixed;
-    span_fixed = λ s. ap (λ x. max x (n.span s.second)) (k.span_fixed s.first) ∙ ap (max (m.span (m.start s.first))) (l.span_fixed s.second);
-    places_fixed = λ s. ap (λ x. min x (n.places s.second)) (k.places_fixed s.first) ∙ ap (min (m.places (m.start s.first))) (l.places_fixed s.second);
-    span_least = λ s. let h = k.span_least s.first in omega arith;
-    places_least = λ s. let h = k.places_least s.first in let j = l.places_least s.second in omega arith;
-    places_most = λ s. let h = k.places_most s.first in omega arith;
-    taken_held = λ s q h ok. taken_last s q;
-    taken_ready = λ s q h ok. refl;
-    stepped_held = λ s h e. subst (λ y. r.held y ≡ map (aged y.table.events) (r.held s)) (sym (tidy_is s (good s h) e)) (held_tidy s);
-    stepped_proper = λ s h e. let g = good s h in subst (λ y. (i : ℕ) → Proper (standing i (r.held s)) (events_of i y.table.events)) (sym (tidy_is s g e)) (proper_tidy s g (span_of m n s));
-    stepped_punctual = λ s h e. let g = good s h in subst (λ y. Punctual (r.held y) y.table.events) (sym (tidy_is s g e)) (punctual_tidy s g (none_done s g e));
-    collected_ready = λ s. refl;
-    collected_held = λ s h. collected_held slot_of_entry (reading (span_of m n s)) (λ w. refl) (first s.table.events) s.table.held (good s h).apart;
-  }
+    punctual_tidy : (s : State) → Good m n s → Ready done_below [] s.table.held → Punctual (r.held (tidy s)) (of_both s)
+    punctual_tidy s g d =
+        subst (λ x. Punctual (map (reading x) (map (moved (of_both s)) s.table.held)) (of_both s)) (sym (span_tidy s))
+        (punctual_both not_first (m.span s.first) (n.span s.second) (span_of m n s) (of_first s) (of_second s) s.table.held (spans.fits s) (spans.first s) (spans.second s) d
+        (punctual_received m k not_first s.first s.table.held g.one) (punctual_received n l not_second s.second s.table.held g.two))
+
+    span_taken : (s : State) (q : Request) → span_of m n (r.taken s q) ≡ span_of m n s
+    span_taken s q = spans.same (r.taken s q) s (span_first (to_first q) s q) (span_second (to_first q) s q)
+
+    taken_last : (s : State) (q : Request) → r.held (r.taken s q) ≡ r.held s ++ (fresh q (span_of m n s) ∷ [])
+    taken_last s q =
+        let p = span_of m n s in
+        ap (λ x. map (reading x) (s.table.held ++ (new_entry q ∷ []))) (span_taken s q) ∙ map_append (reading p) s.table.held (new_entry q) ∙ ap (λ e. map (reading p) s.table.held ++ (e ∷ [])) (new_reading q p)
+
+    laws_of : Lawful r
+    laws_of = record {
+      start_held = λ s. refl;
+      start_ready = λ s. refl;
+      start_fixed = fixed;
+      span_fixed = λ s. spans.same s (r.start s) (k.span_fixed s.first) (l.span_fixed s.second);
+      places_fixed = λ s. ap (λ x. min x (n.places s.second)) (k.places_fixed s.first) ∙ ap (min (m.places (m.start s.first))) (l.places_fixed s.second);
+      span_least = λ s. let h = k.span_least s.first in let j = spans.first s in omega arith;
+      places_least = λ s. let h = k.places_least s.first in let j = l.places_least s.second in omega arith;
+      places_most = λ s. let h = k.places_most s.first in omega arith;
+      taken_held = λ s q h ok. taken_last s q;
+      taken_ready = λ s q h ok. refl;
+      stepped_held = λ s h e. subst (λ y. r.held y ≡ map (aged y.table.events) (r.held s)) (sym (tidy_is s (good s h) e)) (held_tidy s);
+      stepped_proper = λ s h e. let g = good s h in subst (λ y. (i : ℕ) → Proper (standing i (r.held s)) (events_of i y.table.events)) (sym (tidy_is s g e)) (proper_tidy s g (span_of m n s));
+      stepped_punctual = λ s h e. let g = good s h in subst (λ y. Punctual (r.held y) y.table.events) (sym (tidy_is s g e)) (punctual_tidy s g (none_done s g e));
+      collected_ready = λ s. refl;
+      collected_held = λ s h. collected_held slot_of_entry (reading (span_of m n s)) (λ w. refl) (first s.table.events) s.table.held (good s h).apart;
+    }
 
 pub pair_laws : (m n : Meaning (List ℕ)) → Lawful m → Lawful n → ((s : List ℕ) → m.span s < 2 ^ 64) → ((s : List ℕ) → n.span s < 2 ^ 64) → Lawful (pair_meaning m n)
-pair_laws m n k l short brief = lawful_coded pair_codes pair_of pair_back (meaning_of m n) (laws_of m n k l short brief)
+pair_laws m n k l short brief = lawful_coded pair_codes pair_of pair_back (meaning_of m n)
+    (laws_of m n k l short brief (record {
+      same = λ s t e f. ap (λ x. max x (n.span s.second)) e ∙ ap (max (m.span t.first)) f;
+      first = λ s. omega arith;
+      second = λ s. omega arith;
+      fits = λ s. let h = short s.first in let j = brief s.second in omega arith;
+    }))
 
 pub pair_places : (m n : Meaning (List ℕ)) → Lawful m → (s : State) → (meaning_of m n).places s ≤ 32
 pair_places m n k s = let h = k.places_most s.first in omega arith
