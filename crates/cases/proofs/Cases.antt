@@ -1,6 +1,6 @@
 -- The worked cases, computed.
 use Rattle.std.proofs.Common.{◌≡◌, ℕ, zero, suc, ◌+◌, ◌*◌, ◌/◌, ◌%◌, ◌<◌, ◌≤◌, List, [], ◌∷◌, get_or, refl, ap, ◌∙◌, arith, lit<}
-use Rattle.std.specs.List.{flat_map, AllByRecursion as All}
+use Rattle.std.specs.List.{flat_map, AllByRecursion}
 use Rattle.interface.specs.Codec.{number_codec, via, both, many, kind_codec, request_codec, event_codec, bool_codec}
 use Rattle.held.specs.Entries.{entry_codec}
 use Rattle.held.specs.Rows.{rows_codec}
@@ -51,7 +51,7 @@ five_begun : (cs : List Call) → run first_come_meaning [] (sets five ∷ begin
 unfolding whole
 five_begun cs = refl
 
-near : All (λ (v : Vertex). v.slot < 8) (vertices five_set)
+near : AllByRecursion (λ (v : Vertex). v.slot < 8) (vertices five_set)
 unfolding calls
 near = (lit< tt, (lit< tt, (lit< tt, (lit< tt, (lit< tt, tt)))))
 
@@ -81,7 +81,7 @@ five_listed k = after_begin (listed_trace first_come_meaning (running five_set (
 five_is_listed : (k : ℕ) → run first_come_meaning [] (sets five ∷ begins ∷ ticks_for k) ≡ five_listed k
 five_is_listed k = five_begun (ticks_for k) ∙ ap after_begin (ticks_listed first_come_meaning five_set near bare 96 32 k (started five_set at_start) begun_confined)
 
-five_computed : All (λ r. flat_map entry_marks (five_listed 186) ≡ r.expected) five_vertices
+five_computed : AllByRecursion (λ r. flat_map entry_marks (five_listed 186) ≡ r.expected) five_vertices
 unfolding whole listed listed_running listed_state listed_trace
 five_computed = (refl, tt)
 

@@ -2,7 +2,7 @@
 use Rattle.std.proofs.Common.{◌≡◌, ℕ, zero, suc, ◌<◌, ◌≤◌, Bool, true, false, cond, eqb, List, [], ◌∷◌, length, get_or, replicate, Some, None, Option, sym, refl, ap, ◌∙◌, arith}
 use Rattle.std.proofs.ByRecursion.{All-weaker}
 use Rattle.std.proofs.lemmas.Bool.{eqb-true}
-use Rattle.std.specs.List.{AllByRecursion as All}
+use Rattle.std.specs.List.{AllByRecursion}
 use Rattle.interface.specs.Meaning.{Meaning}
 use Rattle.interface.specs.declared.Event.TheVariants.{Issue, Done}
 use Rattle.interface.specs.declared.Event.{Event}
@@ -103,12 +103,12 @@ departed_confined v b lt h = record {
   queues = λ d. put_kept b.queue (domain_of v.slot) _ d [] (h.queues d) (λ same. ap (without v.bank v.kind) (h.queues (domain_of v.slot)));
 }
 
-all_departed_confined : (vs : List Vertex) → All (λ v. v.slot < 8) vs → (b : Tables) → Confined b → Confined (through departed vs b)
+all_departed_confined : (vs : List Vertex) → AllByRecursion (λ v. v.slot < 8) vs → (b : Tables) → Confined b → Confined (through departed vs b)
 unfolding through
 all_departed_confined [] a b h = h
 all_departed_confined (v ∷ vs) a b h = all_departed_confined vs a.1 (departed v b) (departed_confined v b a.0 h)
 
-module _ (m : Meaning (List ℕ)) (c : Settings) (near : All (λ (v : Vertex). v.slot < 8) (vertices c)) (bare : (ℓ : ℕ) → 1 ≤ ℓ → (pattern_at c ℓ).spots ≡ []) where
+module _ (m : Meaning (List ℕ)) (c : Settings) (near : AllByRecursion (λ (v : Vertex). v.slot < 8) (vertices c)) (bare : (ℓ : ℕ) → 1 ≤ ℓ → (pattern_at c ℓ).spots ≡ []) where
   rounds_confined : (b : Tables) → Confined b → Confined (rounds c b)
   unfolding rounds lane_end
   rounds_confined b h = record {

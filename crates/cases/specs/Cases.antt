@@ -1,6 +1,6 @@
 -- Worked cases of whole runs: for each run, all lines and notices that it writes, in order.
 use Rattle.std.specs.Prelude.{◌≡◌, ℕ, List, [], ◌∷◌, ◌++◌, map, replicate}
-use Rattle.std.specs.List.{flat_map, AllByRecursion as All}
+use Rattle.std.specs.List.{flat_map, AllByRecursion}
 use Rattle.interface.specs.Meaning.{Meaning}
 use Rattle.interface.specs.declared.Kind.TheVariants.{Read, Write}
 use Rattle.interface.specs.declared.Kind.{Kind}
@@ -196,8 +196,8 @@ cases = fakes_alone ∷ one_request ∷ five_vertices ∷ read_after_write ∷ w
 
 -- Every run of a case writes what is expected, and nothing else.
 abbrev pub Holds : List Run → Type 0
-Holds runs = All (λ r. given r ≡ r.expected) runs
+Holds runs = AllByRecursion (λ r. given r ≡ r.expected) runs
 
 -- Every case holds.
 abbrev pub CasesHold : Type 0
-CasesHold = All Holds cases
+CasesHold = AllByRecursion Holds cases

@@ -1,7 +1,7 @@
 -- The due tick as it is computed is the greatest release.
 use Rattle.std.proofs.Common.{◌≡◌, ℕ, ◌+◌, ◌≤◌, max, Bool, true, false, leb, List, [], ◌∷◌, map, Some, None, Option, sym, refl, ap, ◌∙◌, subst, inl, inr, arith, leb-false, leb-true}
 use Rattle.std.specs.Option.{option_map}
-use Rattle.std.specs.List.{AllByRecursion as All}
+use Rattle.std.specs.List.{AllByRecursion}
 use Rattle.patterns.specs.declared.edge.Edge.{Edge}
 use Rattle.patterns.specs.declared.vertex.Vertex.{Vertex}
 use Rattle.patterns.specs.Due.{later, greatest, greatest_or, release, due, incoming}
@@ -9,7 +9,7 @@ use Rattle.patterns.specs.Lanes.{LaneView, done_by, due_in}
 use Rattle.patterns.specs.Greatest.{SomeEdge, LetsGoBy, LetsGoAt, Greatest, DueTick, IsDue}
 
 module _ (done : ℕ → Option ℕ) where
-  all_later : (s t : ℕ) (es : List Edge) → s ≤ t → All (LetsGoBy done s) es → All (LetsGoBy done t) es
+  all_later : (s t : ℕ) (es : List Edge) → s ≤ t → AllByRecursion (LetsGoBy done s) es → AllByRecursion (LetsGoBy done t) es
   all_later s t [] le all = tt
   all_later s t (e ∷ es) le all = ((all.0.0, all.0.1, omega (arith, le, all.0.2)), all_later s t es le all.1)
 
@@ -25,7 +25,7 @@ module _ (done : ℕ → Option ℕ) where
       here : LetsGoBy done (max (c + e.weight) s) e
       here = (c, is, omega arith)
 
-      all : All (LetsGoBy done (max (c + e.weight) s)) (f ∷ es)
+      all : AllByRecursion (LetsGoBy done (max (c + e.weight) s)) (f ∷ es)
       all = all_later s (max (c + e.weight) s) (f ∷ es) (omega arith) below.0
 
       go : (b : Bool) → leb s (c + e.weight) ≡ b → Greatest done start (e ∷ f ∷ es) (max (c + e.weight) s)

@@ -1,6 +1,6 @@
 -- What it is to be the due tick of a vertex, said without computing it.
 use Rattle.std.specs.Prelude.{◌≡◌, ℕ, ◌+◌, ◌≤◌, ◌⊎◌, List, [], ◌∷◌, Some, None, Option}
-use Rattle.std.specs.List.{AllByRecursion as All}
+use Rattle.std.specs.List.{AllByRecursion}
 use Rattle.patterns.specs.declared.edge.Edge.{Edge}
 use Rattle.patterns.specs.Due.{incoming}
 use Rattle.patterns.specs.Lanes.{LaneView, done_by}
@@ -26,7 +26,7 @@ module _ (done : ℕ → Option ℕ) where
   -- of the edges that come in: there is none, and t is the start; or each lets go by t, and one of them at t itself
   abbrev pub Greatest : ℕ → List Edge → ℕ → Type 0
   Greatest start [] t = t ≡ start
-  Greatest start (e ∷ es) t = All (LetsGoBy t) (e ∷ es) × SomeEdge (LetsGoAt t) (e ∷ es)
+  Greatest start (e ∷ es) t = AllByRecursion (LetsGoBy t) (e ∷ es) × SomeEdge (LetsGoAt t) (e ∷ es)
 
   -- a due tick is the greatest; where there is none, one of the edges still waits
   abbrev pub DueTick : ℕ → List Edge → Option ℕ → Type 0

@@ -2,7 +2,7 @@
 use Rattle.std.proofs.Common.{◌≡◌, ℕ, zero, suc, ◌*◌, ◌≤◌, Bool, true, false, cond, not, ◌||◌, eqb, ltb, List, [], ◌∷◌, ◌++◌, length, get_or, None, sym, refl, ap, ◌∙◌, subst, arith}
 use Rattle.std.proofs.lemmas.List.{length-set}
 use Rattle.std.proofs.lemmas.Bool.{eqb-true, true≢false, ltb-false, and_parts}
-use Rattle.std.specs.List.{AllByRecursion as All}
+use Rattle.std.specs.List.{AllByRecursion}
 use Rattle.interface.specs.Lawful.{Lawful}
 use Rattle.interface.specs.declared.Kind.{Kind}
 use Rattle.model.specs.Calls.{too_many, good, Call, Running, Setting, State, begins, enqueued, first, lane, opens, outcome, running, sets, setting, setting_refusal, settled, started, submit, submit_outcome, submit_refusal, submitted, taken_open, tick_outcome, tick_refusal, ticked, ticks}
@@ -96,7 +96,7 @@ module _ (r : Controller) (laws : Lawful r.meaning) where
     λ t e. absurd (true≢false (sym e)),
   )
     where
-      every : (vs : List Vertex) → All (λ v. done_tick still ≡ None) vs
+      every : (vs : List Vertex) → AllByRecursion (λ v. done_tick still ≡ None) vs
       every [] = tt
       every (v ∷ vs) = (refl, every vs)
 

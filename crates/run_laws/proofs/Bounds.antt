@@ -1,7 +1,7 @@
 -- The controller refuses nothing, and no number grows beyond its limit.
 use Rattle.std.proofs.Common.{◌≡◌, ℕ, suc, ◌<◌, ◌≤◌, Bool, true, false, cond, not, ◌||◌, eqb, ltb, leb, List, [], ◌∷◌, length, Some, None, Option, sym, refl, ap, subst, arith}
 use Rattle.std.proofs.lemmas.Bool.{true≢false, ltb-false, leb-false}
-use Rattle.std.specs.List.{AllByRecursion as All}
+use Rattle.std.specs.List.{AllByRecursion}
 use Rattle.interface.specs.Lawful.{Lawful}
 use Rattle.interface.specs.Meaning.{Meaning, any, check, is_empty}
 use Rattle.interface.specs.declared.Kind.{Kind}
@@ -137,7 +137,7 @@ module _ (r : Controller) (laws : Lawful r.meaning) where
       (λ e. let low = tick_below x l n e in
       (few r laws c g.0.sound x g.1 (held_fits r laws c x g.1 g.0.fit g.2) (room_for_tick r laws c g.0.sound x g.1 g.0.fit g.2), (λ z. low), (low, h.1)))
 
-  small : (cs : List Call) (w : State) → Good r laws w → Small w → All SmallEntry (trace r.meaning w cs)
+  small : (cs : List Call) (w : State) → Good r laws w → Small w → AllByRecursion SmallEntry (trace r.meaning w cs)
   unfolding trace
   small [] w g h = tt
   small (a ∷ cs) w g h = let f = fine_one w a g h in (record { tick = next_small w h; accepted = f.1; reply = f.0 }, small cs (outcome r.meaning w a).after (good_step r laws w a g) f.2)

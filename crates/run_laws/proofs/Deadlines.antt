@@ -2,7 +2,7 @@
 use Rattle.std.proofs.Common.{◌≡◌, ℕ, suc, ◌+◌, ◌*◌, ◌<◌, ◌≤◌, max, Bool, true, false, cond, eqb, leb, ◌⊎◌, List, [], ◌∷◌, Some, None, Option, sym, refl, ap, ◌∙◌, inl, inr, mul-le-mul_right, arith}
 use Rattle.std.proofs.ByRecursion.{All-weaker}
 use Rattle.std.proofs.lemmas.Bool.{eqb-true, leb-true, leb-false, le-leb, lt-leb, true≢false}
-use Rattle.std.specs.List.{AllByRecursion as All}
+use Rattle.std.specs.List.{AllByRecursion}
 use Rattle.interface.specs.declared.Kind.{Kind}
 use Rattle.patterns.specs.Due.{all_weights, later}
 use Rattle.patterns.specs.declared.edge.Edge.{Edge}
@@ -41,7 +41,7 @@ pub record Into (base i : ℕ) (es : List Edge) (s : Source) : Type 0 where
   pub before : at < i
   pub weighs : weigh at es + s.weight ≤ weigh i es
 
-pub sources_fine : (base i : ℕ) (es : List Edge) → All (λ (e : Edge). e.source < e.target) es → All (Into base i es) (sources_into base i es)
+pub sources_fine : (base i : ℕ) (es : List Edge) → AllByRecursion (λ (e : Edge). e.source < e.target) es → AllByRecursion (Into base i es) (sources_into base i es)
 unfolding sources_into
 sources_fine base i [] h = tt
 sources_fine base i (e ∷ es) h = go (eqb e.target i) refl (All-weaker (Into base i es) (Into base i (e ∷ es)) on (sources_into base i es) (sources_fine base i es h.1))
@@ -49,8 +49,8 @@ sources_fine base i (e ∷ es) h = go (eqb e.target i) refl (All-weaker (Into ba
     on : (s : Source) → Into base i es s → Into base i (e ∷ es) s
     on s m = record { at = m.at; slot_is = m.slot_is; before = m.before; weighs = (let a = part_mono e.target e.weight m.at i (omega arith) in let b = m.weighs in omega arith) }
 
-    go : (x : Bool) → eqb e.target i ≡ x → All (Into base i (e ∷ es)) (sources_into base i es)
-        → All (Into base i (e ∷ es)) (cond x (record { slot = base + e.source; weight = e.weight } ∷ sources_into base i es) (sources_into base i es))
+    go : (x : Bool) → eqb e.target i ≡ x → AllByRecursion (Into base i (e ∷ es)) (sources_into base i es)
+        → AllByRecursion (Into base i (e ∷ es)) (cond x (record { slot = base + e.source; weight = e.weight } ∷ sources_into base i es) (sources_into base i es))
     go true z rest =
         let same : e.target ≡ i = eqb-true e.target i z in
         let less : e.source < e.target = h.0 in
@@ -106,7 +106,7 @@ module _ (span start : ℕ) (es : List Edge) where
 
   module _ (base n many : ℕ) (stage : ℕ → Stage) (left : ℕ → ℕ) (spans : 1 ≤ span) (mids : (u : ℕ) → u < many → Mid n u (left u) (stage (base + u))) where
     -- either some source is not done, or the greatest comes no later than leave-by
-    greatest_by : (i : ℕ) → i < many → (ss : List Source) → All (Into base i es) ss → By n (leave_by i) (greatest_of stage ss)
+    greatest_by : (i : ℕ) → i < many → (ss : List Source) → AllByRecursion (Into base i es) ss → By n (leave_by i) (greatest_of stage ss)
     unfolding greatest_of
     greatest_by i h [] a = omega arith
     greatest_by i h (s ∷ ss) a = go (done_tick (stage s.slot)) refl (greatest_of stage ss) (greatest_by i h ss a.1)
@@ -129,7 +129,7 @@ module _ (span start : ℕ) (es : List Edge) where
             let d = m.weighs in
             omega arith
 
-    pub due_by : (i : ℕ) → i < many → (ss : List Source) → All (Into base i es) ss → (c : Bool) → is_due n (due_from start stage ss) ≡ false → n < leave_by i
+    pub due_by : (i : ℕ) → i < many → (ss : List Source) → AllByRecursion (Into base i es) ss → (c : Bool) → is_due n (due_from start stage ss) ≡ false → n < leave_by i
     unfolding due_from
     due_by i h [] a c e = let k : n < start = leb-false start n e in omega arith
     due_by i h (s ∷ ss) a c e = go (greatest_of stage (s ∷ ss)) e (greatest_by i h (s ∷ ss) a)
@@ -139,7 +139,7 @@ module _ (span start : ℕ) (es : List Edge) where
         go (Some m) e k = let j : n < m = leb-false m n e in omega arith
 
     -- nothing leaves before the start
-    pub begun_by : (i : ℕ) → i < many → (ss : List Source) → All (Into base i es) ss → is_due n (due_from start stage ss) ≡ true → start ≤ n
+    pub begun_by : (i : ℕ) → i < many → (ss : List Source) → AllByRecursion (Into base i es) ss → is_due n (due_from start stage ss) ≡ true → start ≤ n
     unfolding due_from greatest_of
     begun_by i h [] a e = leb-true start n e
     begun_by i h (s ∷ ss) a e = go (done_tick (stage s.slot)) refl e
@@ -151,10 +151,10 @@ module _ (span start : ℕ) (es : List Edge) where
         go None e f = absurd (true≢false (sym f))
         go (Some x) e f = (mid_done n m.at (left m.at) (stage (base + m.at)) x (mids m.at (let k = m.before in omega arith)) (ap (λ z. done_tick (stage z)) (sym m.slot_is) ∙ e)).1
 
-    pub left_fine : (i : ℕ) → i < many → (ss : List Source) → All (Into base i es) ss → (b : ℕ) (k : Kind) (c : Payload) → n ≤ leave_by i → is_due n (due_from start stage ss) ≡ true → (l : ℕ) → (1 ≤ l) × (l ≤ span) → Fine (suc n) i l (flying b k c)
+    pub left_fine : (i : ℕ) → i < many → (ss : List Source) → AllByRecursion (Into base i es) ss → (b : ℕ) (k : Kind) (c : Payload) → n ≤ leave_by i → is_due n (due_from start stage ss) ≡ true → (l : ℕ) → (1 ≤ l) × (l ≤ span) → Fine (suc n) i l (flying b k c)
     left_fine i h ss a b k c m e l u = let g = begun_by i h ss a e in let v = u.0 in let w = u.1 in (omega arith, omega arith, omega arith)
 
-    pub stay_fine : (i : ℕ) → i < many → (ss : List Source) → All (Into base i es) ss → (x : Stage) (l : ℕ) → Mid n i l x → (x ≡ still → is_due n (due_from start stage ss) ≡ false) → Fine (suc n) i l x
+    pub stay_fine : (i : ℕ) → i < many → (ss : List Source) → AllByRecursion (Into base i es) ss → (x : Stage) (l : ℕ) → Mid n i l x → (x ≡ still → is_due n (due_from start stage ss) ≡ false) → Fine (suc n) i l x
     stay_fine i h ss a still l m e = due_by i h ss a true (e refl)
     stay_fine i h ss a (flying b k c) l m e = let p = m.0 in let q = m.1 in let t = m.2 in (omega arith, omega arith, omega arith)
     stay_fine i h ss a (done j) l m e = let p = m.0 in let q = m.1 in let t = m.2 in (omega arith, omega arith, omega arith)
@@ -187,7 +187,7 @@ later_parts (Some a) None j e = absurd (none≢some e)
 later_parts (Some a) (Some b) j e = record { a = a; b = b; left_is = refl; right_is = refl; is = sym (some_is (max a b) j e) }
 
 -- the last Done tick of vertices whose Done ticks come no later than k
-from_by : (k : ℕ) (s : ℕ → Stage) (us : List Vertex) (o : Option ℕ) → ((j : ℕ) → o ≡ Some j → j ≤ k) → All (λ v. (j : ℕ) → done_tick (s v.slot) ≡ Some j → j ≤ k) us → (m : ℕ) → last_from o s us ≡ Some m → m ≤ k
+from_by : (k : ℕ) (s : ℕ → Stage) (us : List Vertex) (o : Option ℕ) → ((j : ℕ) → o ≡ Some j → j ≤ k) → AllByRecursion (λ v. (j : ℕ) → done_tick (s v.slot) ≡ Some j → j ≤ k) us → (m : ℕ) → last_from o s us ≡ Some m → m ≤ k
 unfolding last_from
 from_by k s [] o h a m e = h m e
 from_by k s (u ∷ us) o h a m e = from_by k s us (later o (done_tick (s u.slot))) both a.1 m e
@@ -195,7 +195,7 @@ from_by k s (u ∷ us) o h a m e = from_by k s us (later o (done_tick (s u.slot)
     both : (j : ℕ) → later o (done_tick (s u.slot)) ≡ Some j → j ≤ k
     both j e = let p = later_parts o (done_tick (s u.slot)) j e in let x = h p.a p.left_is in let y = a.0 p.b p.right_is in let z = p.is in omega arith
 
-pub last_by : (k : ℕ) (s : ℕ → Stage) (vs : List Vertex) → All (λ v. (j : ℕ) → done_tick (s v.slot) ≡ Some j → j ≤ k) vs → (m : ℕ) → last_done s vs ≡ Some m → m ≤ k
+pub last_by : (k : ℕ) (s : ℕ → Stage) (vs : List Vertex) → AllByRecursion (λ v. (j : ℕ) → done_tick (s v.slot) ≡ Some j → j ≤ k) vs → (m : ℕ) → last_done s vs ≡ Some m → m ≤ k
 unfolding last_done
 last_by k s [] h m e = absurd (none≢some e)
 last_by k s (v ∷ vs) h m e = from_by k s vs (done_tick (s v.slot)) h.0 h.1 m e
@@ -208,14 +208,14 @@ later_newer n o p d e (inl x) (inl y) = inl (ap (λ z. later z e) x ∙ ap (late
 later_newer n o p d e (inl x) (inr y) = inr (λ j z. let q = later_parts p e j z in let k = y q.b q.right_is in let i = q.is in omega arith)
 later_newer n o p d e (inr x) y = inr (λ j z. let q = later_parts p e j z in let k = x q.a q.left_is in let i = q.is in omega arith)
 
-from_now : (n : ℕ) (s u : ℕ → Stage) (vs : List Vertex) → All (λ v. Newer n (done_tick (s v.slot)) (done_tick (u v.slot))) vs → (o p : Option ℕ) → Newer n o p → last_from o s vs ≡ None → (m : ℕ) → last_from p u vs ≡ Some m → n ≤ m
+from_now : (n : ℕ) (s u : ℕ → Stage) (vs : List Vertex) → AllByRecursion (λ v. Newer n (done_tick (s v.slot)) (done_tick (u v.slot))) vs → (o p : Option ℕ) → Newer n o p → last_from o s vs ≡ None → (m : ℕ) → last_from p u vs ≡ Some m → n ≤ m
 unfolding last_from
 from_now n s u [] h o p (inl x) e m f = absurd (none≢some (sym e ∙ sym x ∙ f))
 from_now n s u [] h o p (inr x) e m f = x m f
 from_now n s u (v ∷ vs) h o p x e m f = from_now n s u vs h.1 (later o (done_tick (s v.slot))) (later p (done_tick (u v.slot))) (later_newer n o p _ _ x h.0) e m f
 
 -- a lane that was not all done, and is so by the events of this tick, was last done in this tick
-pub last_now : (n : ℕ) (s u : ℕ → Stage) (vs : List Vertex) → All (λ v. Newer n (done_tick (s v.slot)) (done_tick (u v.slot))) vs → last_done s vs ≡ None → (m : ℕ) → last_done u vs ≡ Some m → n ≤ m
+pub last_now : (n : ℕ) (s u : ℕ → Stage) (vs : List Vertex) → AllByRecursion (λ v. Newer n (done_tick (s v.slot)) (done_tick (u v.slot))) vs → last_done s vs ≡ None → (m : ℕ) → last_done u vs ≡ Some m → n ≤ m
 unfolding last_done
 last_now n s u [] h e m f = absurd (none≢some f)
 last_now n s u (v ∷ vs) h e m f = from_now n s u vs h.1 (done_tick (s v.slot)) (done_tick (u v.slot)) h.0 e m f

@@ -2,7 +2,7 @@
 use Rattle.std.proofs.Common.{◌≡◌, ℕ, suc, ◌+◌, ◌<◌, ◌≤◌, Bool, true, false, cond, ◌&&◌, eqb, List, [], ◌∷◌, ◌++◌, map, length, None, Option, sym, refl, ap, ◌∙◌, subst, inl, arith}
 use mathlib.Core.Path.{fun_ext}
 use Rattle.std.proofs.lemmas.List.{append-nil, append_assoc}
-use Rattle.std.specs.List.{AllByRecursion as All}
+use Rattle.std.specs.List.{AllByRecursion}
 use Rattle.interface.proofs.Bools.{eqb_comm}
 use Rattle.interface.specs.Lawful.{Lawful}
 use Rattle.interface.specs.Meaning.{Meaning}
@@ -34,7 +34,7 @@ use Rattle.run_laws.proofs.Steps.{by_refusal_eq, made_by, made_running}
 use Rattle.run_laws.proofs.Submits.{open_left, elsewhere, low_bank, free_slot}
 
 module _ (r : Controller) (laws : Lawful r.meaning) (c : Settings) (sound : Sound c) where
-  order : (ℓ : ℕ) → All (λ (e : Edge). e.source < e.target) (pattern_at c ℓ).edges
+  order : (ℓ : ℕ) → AllByRecursion (λ (e : Edge). e.source < e.target) (pattern_at c ℓ).edges
   order ℓ = (pattern_small c ℓ sound).order
 
   -- every lane agrees with the lines so far

@@ -2,7 +2,7 @@
 use Rattle.std.proofs.Common.{◌≡◌, ℕ, zero, suc, ◌+◌, ◌*◌, ◌<◌, ◌≤◌, Bool, true, false, cond, ◌||◌, eqb, ◌⊎◌, List, [], ◌∷◌, ◌++◌, length, get_or, sym, refl, ap, ◌∙◌, subst, inl, inr, arith}
 use Rattle.std.proofs.ByRecursion.{All-weaker, All-append}
 use Rattle.std.proofs.lemmas.Bool.{eqb-true, eqb-false, eq-eqb, ne_eqb, true≢false, or_parts, cases_eq}
-use Rattle.std.specs.List.{AllByRecursion as All}
+use Rattle.std.specs.List.{AllByRecursion}
 use Rattle.interface.specs.declared.Event.TheVariants.{Done, Issue}
 use Rattle.interface.specs.declared.Event.{Event}
 use Rattle.interface.specs.declared.Kind.TheVariants.{Read}
@@ -23,7 +23,7 @@ abbrev pub In : Vertex → List Vertex → Type 0
 In v [] = ⊥
 In v (w ∷ ws) = (v ≡ w) ⊎ In v ws
 
-pub all_in : (P : Vertex → Type 0) (v : Vertex) (vs : List Vertex) → All P vs → In v vs → P v
+pub all_in : (P : Vertex → Type 0) (v : Vertex) (vs : List Vertex) → AllByRecursion P vs → In v vs → P v
 all_in P v [] h i = elim i [ ]
 all_in P v (w ∷ ws) h (inl e) = subst P (sym e) h.0
 all_in P v (w ∷ ws) h (inr i) = all_in P v ws h.1 i
@@ -66,7 +66,7 @@ unfolding vertices
 in_vertices c ℓ v h i = in_below c ℓ 64 v h i
 
 -- no slot twice
-not_in : (t : ℕ) (vs : List Vertex) → All (λ v. t < v.slot) vs → in_slots t vs ≡ false
+not_in : (t : ℕ) (vs : List Vertex) → AllByRecursion (λ v. t < v.slot) vs → in_slots t vs ≡ false
 not_in t [] h = refl
 not_in t (v ∷ vs) h = let k : t < v.slot = h.0 in rw (ne_eqb v.slot t (λ e. omega arith)) (not_in t vs h.1)
 
@@ -79,15 +79,15 @@ in_append_slots : (t : ℕ) (us ws : List Vertex) → in_slots t us ≡ false �
 in_append_slots t [] ws e f = f
 in_append_slots t (u ∷ us) ws e f = let p = or_parts (eqb u.slot t) (in_slots t us) e in rw p.0 (in_append_slots t us ws p.1 f)
 
-apart_append : (us ws : List Vertex) → Apart us → Apart ws → All (λ u. All (λ w. u.slot < w.slot) ws) us → Apart (us ++ ws)
+apart_append : (us ws : List Vertex) → Apart us → Apart ws → AllByRecursion (λ u. AllByRecursion (λ w. u.slot < w.slot) ws) us → Apart (us ++ ws)
 apart_append [] ws a b h = b
 apart_append (u ∷ us) ws a b h = (in_append_slots u.slot us ws a.0 (not_in u.slot ws h.0), apart_append us ws a.1 b h.1)
 
-lane_low : (c : Settings) (ℓ : ℕ) → Sound c → All (λ v. (ℓ * 8 ≤ v.slot) × (v.slot < suc ℓ * 8)) (lane_vertices c ℓ)
+lane_low : (c : Settings) (ℓ : ℕ) → Sound c → AllByRecursion (λ v. (ℓ * 8 ≤ v.slot) × (v.slot < suc ℓ * 8)) (lane_vertices c ℓ)
 unfolding lane_vertices
 lane_low c ℓ h = let few : size c ℓ ≤ 8 = (pattern_small c ℓ h).few in All-weaker _ _ (λ v k. (omega arith, omega arith)) (vertices_from (ℓ * 8) 0 (pattern_at c ℓ).edges (pattern_at c ℓ).spots) (lane_within (ℓ * 8) 0 (pattern_at c ℓ).edges (pattern_at c ℓ).spots)
 
-apart_below : (c : Settings) → Sound c → (n : ℕ) → Apart (vertices_below c n) × All (λ v. v.slot < n * 8) (vertices_below c n)
+apart_below : (c : Settings) → Sound c → (n : ℕ) → Apart (vertices_below c n) × AllByRecursion (λ v. v.slot < n * 8) (vertices_below c n)
 unfolding vertices_below lane_vertices
 apart_below c h zero = (tt, tt)
 apart_below c h (suc n) =
@@ -103,16 +103,16 @@ unfolding vertices
 apart_vertices c h = (apart_below c h 64).0
 
 -- slots and banks fit
-bank_from : (base j : ℕ) (es : List Edge) (ss : List VertexSetting) → All (λ p. p.bank ≤ 7) ss → All (λ v. v.bank ≤ 7) (vertices_from base j es ss)
+bank_from : (base j : ℕ) (es : List Edge) (ss : List VertexSetting) → AllByRecursion (λ p. p.bank ≤ 7) ss → AllByRecursion (λ v. v.bank ≤ 7) (vertices_from base j es ss)
 unfolding vertices_from
 bank_from base j es [] h = tt
 bank_from base j es (s ∷ ss) h = (h.0, bank_from base (suc j) es ss h.1)
 
-both_all : (P Q : Vertex → Type 0) (vs : List Vertex) → All P vs → All Q vs → All (λ v. P v × Q v) vs
+both_all : (P Q : Vertex → Type 0) (vs : List Vertex) → AllByRecursion P vs → AllByRecursion Q vs → AllByRecursion (λ v. P v × Q v) vs
 both_all P Q [] p q = tt
 both_all P Q (v ∷ vs) p q = ((p.0, q.0), both_all P Q vs p.1 q.1)
 
-pub placed : (c : Settings) → Sound c → All (λ v. (v.slot ≤ 511) × (v.bank ≤ 7)) (vertices c)
+pub placed : (c : Settings) → Sound c → AllByRecursion (λ v. (v.slot ≤ 511) × (v.bank ≤ 7)) (vertices c)
 unfolding vertices lane_vertices
 placed c h = both_all _ _ (vertices_below c 64) (All-weaker _ _ (λ v k. omega arith) (vertices_below c 64) (apart_below c h 64).1) (below_all _ c 64 (λ ℓ k. bank_from (ℓ * 8) 0 (pattern_at c ℓ).edges (pattern_at c ℓ).spots (pattern_small c ℓ h).banks))
 
@@ -144,12 +144,12 @@ leaving_apart n b (w ∷ ws) a = go (leaves n b w) (leaving_apart n b ws a.1)
     go true k = (leaving_out n b w.slot ws a.0, k)
     go false k = k
 
-pub leaving_leave : (P : Vertex → Type 0) (n : ℕ) (b : Tables) (vs : List Vertex) → All P vs → All (λ v. P v × (leaves n b v ≡ true)) (leaving n b vs)
+pub leaving_leave : (P : Vertex → Type 0) (n : ℕ) (b : Tables) (vs : List Vertex) → AllByRecursion P vs → AllByRecursion (λ v. P v × (leaves n b v ≡ true)) (leaving n b vs)
 unfolding leaving
 leaving_leave P n b [] h = tt
 leaving_leave P n b (w ∷ ws) h = go (leaves n b w) refl (leaving_leave P n b ws h.1)
   where
-    go : (x : Bool) → leaves n b w ≡ x → All (λ v. P v × (leaves n b v ≡ true)) (leaving n b ws) → All (λ v. P v × (leaves n b v ≡ true)) (cond x (w ∷ leaving n b ws) (leaving n b ws))
+    go : (x : Bool) → leaves n b w ≡ x → AllByRecursion (λ v. P v × (leaves n b v ≡ true)) (leaving n b ws) → AllByRecursion (λ v. P v × (leaves n b v ≡ true)) (cond x (w ∷ leaving n b ws) (leaving n b ws))
     go true z k = ((h.0, z), k)
     go false z k = k
 

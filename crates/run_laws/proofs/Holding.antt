@@ -2,7 +2,7 @@
 use Rattle.std.proofs.Common.{◌≡◌, ℕ, suc, ◌+◌, ◌-◌, ◌<◌, ◌≤◌, Bool, true, false, cond, not, ◌&&◌, ◌||◌, eqb, List, [], ◌∷◌, ◌++◌, map, length, Some, None, sym, refl, ap, ◌∙◌, subst, inl, inr, arith}
 use Rattle.std.proofs.lemmas.List.{length-append}
 use Rattle.std.proofs.lemmas.Bool.{eqb-true, eqb-false, eq-eqb, ne_eqb, true≢false, or_parts, or_right, cases_eq}
-use Rattle.std.specs.List.{AllByRecursion as All}
+use Rattle.std.specs.List.{AllByRecursion}
 use Rattle.interface.proofs.Bools.{or_right as or_none, eqb_comm, or_assoc, and_left}
 use Rattle.interface.proofs.Takes.{take_fine, range_fine}
 use Rattle.interface.specs.Emptied.{emptied}
@@ -340,7 +340,7 @@ module _ (r : Controller) (laws : Lawful r.meaning) where
     pub spanned : (t : ℕ) → in_slots t vs ≡ true → (1 ≤ left r z t) × (left r z t ≤ span r)
     pub lefts : (t : ℕ) → holds t (r.meaning.held s) ≡ true → left r z t ≡ left r s t
 
-  pub all_held : (vs : List Vertex) (s : List ℕ) → Reached r s → All (Free s) vs → Apart vs → length (r.meaning.held s) + length vs ≤ places r → AllHeld vs s (taken_all r.meaning vs s)
+  pub all_held : (vs : List Vertex) (s : List ℕ) → Reached r s → AllByRecursion (Free s) vs → Apart vs → length (r.meaning.held s) + length vs ≤ places r → AllHeld vs s (taken_all r.meaning vs s)
   unfolding taken_all
   all_held [] s h f a room = record { takes = tt; again = h; quiet = refl; keeps = λ t. sym (or_none (holds t (r.meaning.held s))); spanned = λ t e. absurd (true≢false (sym e)); lefts = λ t e. refl }
   all_held (v ∷ vs) s h f a room = go (all_held vs next one.again (freed vs f.1 a.0) a.1 (let k = one.longer in omega arith))
@@ -354,7 +354,7 @@ module _ (r : Controller) (laws : Lawful r.meaning) where
       one : Taken s (after r.meaning (Call.take (request_of v)) s) v.slot
       one = taken s (request_of v) h f.0.2 fine
 
-      freed : (us : List Vertex) → All (Free s) us → in_slots v.slot us ≡ false → All (Free next) us
+      freed : (us : List Vertex) → AllByRecursion (Free s) us → in_slots v.slot us ≡ false → AllByRecursion (Free next) us
       freed [] g e = tt
       freed (u ∷ us) g e =
           let parts = or_parts (eqb u.slot v.slot) (in_slots v.slot us) e in

@@ -2,7 +2,7 @@
 use Rattle.std.proofs.Common.{◌≡◌, ℕ, suc, ◌+◌, ◌*◌, ◌%◌, ◌<◌, ◌≤◌, Bool, true, false, cond, not, ◌&&◌, ◌||◌, ◌⊎◌, List, [], ◌∷◌, length, Some, None, Option, sym, refl, ap, ◌∙◌, subst, inl, inr, arith}
 use Rattle.std.proofs.ByRecursion.{All-weaker}
 use Rattle.std.proofs.lemmas.Bool.{true≢false, and_parts}
-use Rattle.std.specs.List.{AllByRecursion as All}
+use Rattle.std.specs.List.{AllByRecursion}
 use Rattle.interface.proofs.Bools.{or_true, or_right as or_none}
 use Rattle.interface.specs.Emptied.{emptied}
 use Rattle.interface.specs.Lawful.{Lawful}
@@ -79,17 +79,17 @@ unfolding last_from
 last_from_none s [] = refl
 last_from_none s (v ∷ vs) = last_from_none s vs
 
-pub last_none : (s : ℕ → Stage) (vs : List Vertex) → All (λ v. done_tick (s v.slot) ≡ None) vs → last_done s vs ≡ None
+pub last_none : (s : ℕ → Stage) (vs : List Vertex) → AllByRecursion (λ v. done_tick (s v.slot) ≡ None) vs → last_done s vs ≡ None
 unfolding last_done
 last_none s [] h = refl
 last_none s (v ∷ vs) h = rw h.0 (last_from_none s vs)
 
-last_from_cong : (s u : ℕ → Stage) (vs : List Vertex) → All (λ v. done_tick (u v.slot) ≡ done_tick (s v.slot)) vs → (o : Option ℕ) → last_from o u vs ≡ last_from o s vs
+last_from_cong : (s u : ℕ → Stage) (vs : List Vertex) → AllByRecursion (λ v. done_tick (u v.slot) ≡ done_tick (s v.slot)) vs → (o : Option ℕ) → last_from o u vs ≡ last_from o s vs
 unfolding last_from
 last_from_cong s u [] h o = refl
 last_from_cong s u (v ∷ vs) h o = ap (λ z. last_from (later o z) u vs) h.0 ∙ last_from_cong s u vs h.1 (later o (done_tick (s v.slot)))
 
-pub last_cong : (s u : ℕ → Stage) (vs : List Vertex) → All (λ v. done_tick (u v.slot) ≡ done_tick (s v.slot)) vs → last_done u vs ≡ last_done s vs
+pub last_cong : (s u : ℕ → Stage) (vs : List Vertex) → AllByRecursion (λ v. done_tick (u v.slot) ≡ done_tick (s v.slot)) vs → last_done u vs ≡ last_done s vs
 unfolding last_done
 last_cong s u [] h = refl
 last_cong s u (v ∷ vs) h = ap (λ z. last_from z u vs) h.0 ∙ last_from_cong s u vs h.1 (done_tick (s v.slot))
@@ -105,19 +105,19 @@ is_some : (o : Option ℕ) → (o ≡ None) ⊎ ((j : ℕ) × (o ≡ Some j))
 is_some None = inl refl
 is_some (Some j) = inr (j, refl)
 
-from_all_done : (s : ℕ → Stage) (vs : List Vertex) (o : Option ℕ) (m : ℕ) → last_from o s vs ≡ Some m → ((j : ℕ) × (o ≡ Some j)) × All (λ v. (j : ℕ) × (done_tick (s v.slot) ≡ Some j)) vs
+from_all_done : (s : ℕ → Stage) (vs : List Vertex) (o : Option ℕ) (m : ℕ) → last_from o s vs ≡ Some m → ((j : ℕ) × (o ≡ Some j)) × AllByRecursion (λ v. (j : ℕ) × (done_tick (s v.slot) ≡ Some j)) vs
 unfolding last_from
 from_all_done s [] o m e = ((m, e), tt)
 from_all_done s (v ∷ vs) o m e = go (from_all_done s vs (later o (done_tick (s v.slot))) m e) (is_some o) (is_some (done_tick (s v.slot)))
   where
-    go : ((j : ℕ) × (later o (done_tick (s v.slot)) ≡ Some j)) × All (λ v. (j : ℕ) × (done_tick (s v.slot) ≡ Some j)) vs
+    go : ((j : ℕ) × (later o (done_tick (s v.slot)) ≡ Some j)) × AllByRecursion (λ v. (j : ℕ) × (done_tick (s v.slot) ≡ Some j)) vs
         → (o ≡ None) ⊎ ((j : ℕ) × (o ≡ Some j)) → (done_tick (s v.slot) ≡ None) ⊎ ((j : ℕ) × (done_tick (s v.slot) ≡ Some j))
-        → ((j : ℕ) × (o ≡ Some j)) × All (λ v. (j : ℕ) × (done_tick (s v.slot) ≡ Some j)) (v ∷ vs)
+        → ((j : ℕ) × (o ≡ Some j)) × AllByRecursion (λ v. (j : ℕ) × (done_tick (s v.slot) ≡ Some j)) (v ∷ vs)
     go p (inl x) y = absurd (none≢some (sym (later_some o _ (inl x)) ∙ p.0.1))
     go p (inr x) (inl y) = absurd (none≢some (sym (later_some o _ (inr y)) ∙ p.0.1))
     go p (inr x) (inr y) = (x, (y, p.1))
 
-pub all_done : (s : ℕ → Stage) (vs : List Vertex) (m : ℕ) → last_done s vs ≡ Some m → All (λ v. (j : ℕ) × (done_tick (s v.slot) ≡ Some j)) vs
+pub all_done : (s : ℕ → Stage) (vs : List Vertex) (m : ℕ) → last_done s vs ≡ Some m → AllByRecursion (λ v. (j : ℕ) × (done_tick (s v.slot) ≡ Some j)) vs
 unfolding last_done
 all_done s [] m e = absurd (none≢some e)
 all_done s (v ∷ vs) m e = from_all_done s vs (done_tick (s v.slot)) m e
@@ -130,7 +130,7 @@ pub record Middle (r : Controller) (c : Settings) (n : ℕ) (old new : ℕ → S
   pub moved : ((start' ≡ start) × ((i : ℕ) → i < size c ℓ → new (slot_at ℓ i) ≡ old (slot_at ℓ i)))
       ⊎ ((start' ≤ start + (size c ℓ * span r + all_weights (pattern_at c ℓ).edges + (pattern_at c ℓ).rest)) × ((i : ℕ) → i < size c ℓ → (new (slot_at ℓ i) ≡ still) × (is_still (old (slot_at ℓ i)) ≡ false)))
 
-index_all : (P : ℕ → Type 0) (base j : ℕ) (es : List Edge) (ss : List VertexSetting) → ((i : ℕ) → i < length ss → P (base + (j + i))) → All (λ v. P v.slot) (vertices_from base j es ss)
+index_all : (P : ℕ → Type 0) (base j : ℕ) (es : List Edge) (ss : List VertexSetting) → ((i : ℕ) → i < length ss → P (base + (j + i))) → AllByRecursion (λ v. P v.slot) (vertices_from base j es ss)
 unfolding vertices_from
 index_all P base j es [] h = tt
 index_all P base j es (s ∷ ss) h =
@@ -168,7 +168,7 @@ module _ (r : Controller) (laws : Lawful r.meaning) (c : Settings) (sound : Soun
   slot_closed ℓ i h = all_in (λ v. is_open c (domain_of v.slot) ≡ false) (vertex_at c ℓ i) (lane_vertices c ℓ) (lane_closed c ℓ sound) (in_lane c ℓ i h)
 
   -- every vertex of a lane is one of these
-  by_index : (P : ℕ → Type 0) (ℓ : ℕ) → ((i : ℕ) → i < size c ℓ → P (slot_at ℓ i)) → All (λ v. P v.slot) (lane_vertices c ℓ)
+  by_index : (P : ℕ → Type 0) (ℓ : ℕ) → ((i : ℕ) → i < size c ℓ → P (slot_at ℓ i)) → AllByRecursion (λ v. P v.slot) (lane_vertices c ℓ)
   unfolding lane_vertices
   by_index P ℓ h = index_all P (ℓ * 8) 0 (pattern_at c ℓ).edges (pattern_at c ℓ).spots (λ i k. let e : i ≡ 0 + i = omega arith in subst (λ z. P (ℓ * 8 + z)) e (h i k))
 
@@ -255,7 +255,7 @@ module _ (r : Controller) (laws : Lawful r.meaning) (c : Settings) (sound : Soun
             same : (i : ℕ) → i < size c ℓ → ((tables_2 r c x).stage (slot_at ℓ i) ≡ still) × (is_still ((tables_1 r c x).stage (slot_at ℓ i)) ≡ false)
             same i h = let d = done_is ((tables_1 r c x).stage (slot_at ℓ i)) (was i h).0 (was i h).1 in (at_2 ℓ i h ∙ ap (λ o. renewed o ((tables_1 r c x).stage (slot_at ℓ i))) e ∙ ap (renewed (Some m)) d, ap is_still d)
 
-    pub departing_free : All (Free r laws (controller_2 r c x)) (departing r c x)
+    pub departing_free : AllByRecursion (Free r laws (controller_2 r c x)) (departing r c x)
     unfolding departures leaves
     departing_free = All-weaker _ (Free r laws (controller_2 r c x)) free (departing r c x) (leaving_leave _ x.tick (tables_2 r c x) (vertices c) (placed c sound))
       where
@@ -293,7 +293,7 @@ module _ (r : Controller) (laws : Lawful r.meaning) (c : Settings) (sound : Soun
           mid : Middle r c x.tick (tables_1 r c x).stage (tables_2 r c x).stage (x.tables.start ℓ) ((tables_2 r c x).start ℓ) (left r (controller_2 r c x)) ℓ
           mid = middle ℓ hℓ
 
-          srcs : All (Into (ℓ * 8) i (pattern_at c ℓ).edges) (sources_into (ℓ * 8) i (pattern_at c ℓ).edges)
+          srcs : AllByRecursion (Into (ℓ * 8) i (pattern_at c ℓ).edges) (sources_into (ℓ * 8) i (pattern_at c ℓ).edges)
           srcs = sources_fine (ℓ * 8) i (pattern_at c ℓ).edges (pattern_small c ℓ sound).order
 
           go : (y : Bool) → in_slots (slot_at ℓ i) (departing r c x) ≡ y → Fine (span r) ((tables_2 r c x).start ℓ) (pattern_at c ℓ).edges (suc x.tick) i (left r (taken_all r.meaning (departing r c x) (controller_2 r c x)) (slot_at ℓ i)) ((through departed (departing r c x) (tables_2 r c x)).stage (slot_at ℓ i))

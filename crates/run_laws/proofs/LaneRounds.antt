@@ -3,7 +3,7 @@ use Rattle.std.proofs.Common.{◌≡◌, ℕ, zero, suc, ◌+◌, ◌*◌, ◌<�
 use Rattle.std.proofs.lemmas.List.{length-append}
 use Rattle.std.proofs.lemmas.Bool.{cases_eq, true≢false, and_parts, leb-true, leb-false, lt-ltb, le-ltb}
 use Rattle.std.specs.Option.{option_map}
-use Rattle.std.specs.List.{AllByRecursion as All}
+use Rattle.std.specs.List.{AllByRecursion}
 use Rattle.interface.specs.declared.Kind.TheVariants.{Read}
 use Rattle.patterns.specs.Due.{due, round_end, next_start, longest_round}
 use Rattle.patterns.specs.declared.edge.Edge.{Edge}
@@ -36,7 +36,7 @@ length_same : (xs : List ℕ) → length (xs ++ []) ≡ length xs
 length_same xs = simp length-append (omega arith)
 
 -- the first tick, the span, and the lane's pattern
-module _ (first span : ℕ) (p : Pattern) (order : All (λ (e : Edge). e.source < e.target) p.edges) where
+module _ (first span : ℕ) (p : Pattern) (order : AllByRecursion (λ (e : Edge). e.source < e.target) p.edges) where
   abbrev pub size_of : ℕ
   size_of = length p.spots
 

@@ -3,7 +3,7 @@ use Rattle.std.proofs.Common.{◌≡◌, ℕ, ◌≤◌, Bool, true, false, cond
 use Rattle.std.proofs.ByRecursion.{All-append, All-weaker}
 use Rattle.std.proofs.lemmas.List.{map-append}
 use Rattle.std.proofs.lemmas.Bool.{eqb-true, eq-eqb, true≢false, or_parts}
-use Rattle.std.specs.List.{AllByRecursion as All}
+use Rattle.std.specs.List.{AllByRecursion}
 use Rattle.interface.specs.Meaning.{Meaning}
 use Rattle.interface.specs.declared.Event.{Event}
 use Rattle.interface.specs.declared.Event.TheVariants.{Issue, Done}
@@ -24,7 +24,7 @@ use Rattle.run_laws.proofs.Steps.{by_refusal, by_refusal_eq, made_by, made_runni
 
 -- ---- vertices by their slots
 
-not_here : (t : ℕ) (ws : List Vertex) → in_slots t ws ≡ false → All (λ w. w.slot ≡ t → ⊥) ws
+not_here : (t : ℕ) (ws : List Vertex) → in_slots t ws ≡ false → AllByRecursion (λ w. w.slot ≡ t → ⊥) ws
 not_here t [] e = tt
 not_here t (w ∷ ws) e = let p = or_parts (eqb w.slot t) (in_slots t ws) e in ((λ z. true≢false (sym (eq-eqb w.slot t z) ∙ p.0)), not_here t ws p.1)
 
@@ -33,7 +33,7 @@ module _ (v : Vertex) where
   abbrev Alike : Vertex → Type 0
   Alike w = w.slot ≡ v.slot → (w.bank ≡ v.bank) × (w.kind ≡ v.kind)
 
-  alike_all : (ws : List Vertex) → Apart ws → In v ws → All Alike ws
+  alike_all : (ws : List Vertex) → Apart ws → In v ws → AllByRecursion Alike ws
   alike_all [] a i = tt
   alike_all (w ∷ ws) a (inl e) = ((λ z. (ap (λ u. u.bank) (sym e), ap (λ u. u.kind) (sym e))), All-weaker _ Alike (λ u no z. absurd (no (z ∙ ap (λ u. u.slot) e))) ws (not_here w.slot ws a.0))
   alike_all (w ∷ ws) a (inr i) = ((λ z. absurd (true≢false (sym (in_here v ws i) ∙ ap (λ t. in_slots t ws) (sym z) ∙ a.0))), alike_all ws a.1 i)
@@ -61,17 +61,17 @@ module _ (v : Vertex) where
   as_renewed (Some m) (flying b k p) f = f
   as_renewed (Some m) (done j) f = tt
 
-  own_line : (l : Letter) (n u : ℕ) (x : Stage) → (u ≡ v.slot → FliesAs x) → All (OwnLine v) (map strike (line_of l n u x))
+  own_line : (l : Letter) (n u : ℕ) (x : Stage) → (u ≡ v.slot → FliesAs x) → AllByRecursion (OwnLine v) (map strike (line_of l n u x))
   own_line l n u still f = tt
   own_line l n u (flying b k p) f = ((λ e. (ap domain_of e, (f e).0, (f e).1)), tt)
   own_line l n u (done m) f = tt
 
-  struck_all : (xs ys : List Line) → All (OwnLine v) (map strike xs) → All (OwnLine v) (map strike ys) → All (OwnLine v) (map strike (xs ++ ys))
-  struck_all xs ys a b = subst (All (OwnLine v)) (sym (map-append strike xs ys)) (All-append (OwnLine v) (map strike xs) (map strike ys) a b)
+  struck_all : (xs ys : List Line) → AllByRecursion (OwnLine v) (map strike xs) → AllByRecursion (OwnLine v) (map strike ys) → AllByRecursion (OwnLine v) (map strike (xs ++ ys))
+  struck_all xs ys a b = subst (AllByRecursion (OwnLine v)) (sym (map-append strike xs ys)) (All-append (OwnLine v) (map strike xs) (map strike ys) a b)
 
   -- ---- a tick
 
-  own_events : (c : Settings) (n : ℕ) (es : List Event) (b : Tables) → FliesAs (b.stage v.slot) → All (OwnLine v) (map strike (written (event_line n) (completed c n) es b))
+  own_events : (c : Settings) (n : ℕ) (es : List Event) (b : Tables) → FliesAs (b.stage v.slot) → AllByRecursion (OwnLine v) (map strike (written (event_line n) (completed c n) es b))
   unfolding written event_line completed
   own_events c n [] b f = tt
   own_events c n (Issue u ∷ es) b f = struck_all (line_of letter.I n u (b.stage u)) (written (event_line n) (completed c n) es b) (own_line letter.I n u (b.stage u) (λ e. subst (λ t. FliesAs (b.stage t)) (sym e) f)) (own_events c n es b f)
@@ -81,7 +81,7 @@ module _ (v : Vertex) where
       go true = as_finished _ n (b.stage u)
       go false = f
 
-  own_departures : (n : ℕ) (ws : List Vertex) (b : Tables) → All Alike ws → FliesAs (b.stage v.slot) → All (OwnLine v) (map strike (written (take_line n) departed ws b)) × FliesAs ((through departed ws b).stage v.slot)
+  own_departures : (n : ℕ) (ws : List Vertex) (b : Tables) → AllByRecursion Alike ws → FliesAs (b.stage v.slot) → AllByRecursion (OwnLine v) (map strike (written (take_line n) departed ws b)) × FliesAs ((through departed ws b).stage v.slot)
   unfolding written take_line through departed
   own_departures n [] b a f = (tt, f)
   own_departures n (w ∷ ws) b a f = go (own_departures n ws (departed w b) a.1 (next (eqb v.slot w.slot) refl))
@@ -90,8 +90,8 @@ module _ (v : Vertex) where
       next true e = a.0 (sym (eqb-true v.slot w.slot e))
       next false e = f
 
-      go : All (OwnLine v) (map strike (written (take_line n) departed ws (departed w b))) × FliesAs ((through departed ws (departed w b)).stage v.slot)
-          → All (OwnLine v) (map strike (line_of letter.T n w.slot (flying w.bank w.kind (payload_for w b)) ++ written (take_line n) departed ws (departed w b))) × FliesAs ((through departed ws (departed w b)).stage v.slot)
+      go : AllByRecursion (OwnLine v) (map strike (written (take_line n) departed ws (departed w b))) × FliesAs ((through departed ws (departed w b)).stage v.slot)
+          → AllByRecursion (OwnLine v) (map strike (line_of letter.T n w.slot (flying w.bank w.kind (payload_for w b)) ++ written (take_line n) departed ws (departed w b))) × FliesAs ((through departed ws (departed w b)).stage v.slot)
       go y = (struck_all (line_of letter.T n w.slot (flying w.bank w.kind (payload_for w b))) (written (take_line n) departed ws (departed w b)) (own_line letter.T n w.slot (flying w.bank w.kind (payload_for w b)) a.0) y.0, y.1)
 
 module _ (m : Meaning (List ℕ)) (c : Settings) (sound : Sound c) (v : Vertex) (inside : In v (vertices c)) where
@@ -100,23 +100,23 @@ module _ (m : Meaning (List ℕ)) (c : Settings) (sound : Sound c) (v : Vertex) 
   middle_of n s b f = as_renewed v (lane_end c (through (completed c n) (step_events m s) b).stage _) ((through (completed c n) (step_events m s) b).stage v.slot)
       (subst (FliesAs v) (sym (completed_at c n v.slot (step_events m s) b)) (as_completed v (finishes v.slot (step_events m s)) (is_open c (domain_of v.slot)) n (b.stage v.slot) f))
 
-  own_tick : (n : ℕ) (s : List ℕ) (b : Tables) → FliesAs v (b.stage v.slot) → All (OwnLine v) (map strike (lines m c n s b)) × FliesAs v ((after_tick m c n s b).stage v.slot)
+  own_tick : (n : ℕ) (s : List ℕ) (b : Tables) → FliesAs v (b.stage v.slot) → AllByRecursion (OwnLine v) (map strike (lines m c n s b)) × FliesAs v ((after_tick m c n s b).stage v.slot)
   unfolding lines after_tick departures
   own_tick n s b f = go (own_departures v n (departures m c n s b) (after_rounds m c n s b) alike middle)
     where
-      alike : All (Alike v) (departures m c n s b)
+      alike : AllByRecursion (Alike v) (departures m c n s b)
       alike = All-weaker _ (Alike v) (λ w h. h.0) (departures m c n s b) (leaving_leave (Alike v) n (after_rounds m c n s b) (vertices c) (alike_all v (vertices c) (apart_vertices c sound) inside))
 
       middle : FliesAs v ((after_rounds m c n s b).stage v.slot)
       middle = middle_of n s b f
 
-      go : All (OwnLine v) (map strike (written (take_line n) departed (departures m c n s b) (after_rounds m c n s b))) × FliesAs v ((through departed (departures m c n s b) (after_rounds m c n s b)).stage v.slot)
-          → All (OwnLine v) (map strike (written (event_line n) (completed c n) (step_events m s) b ++ written (take_line n) departed (departures m c n s b) (after_rounds m c n s b))) × FliesAs v ((through departed (departures m c n s b) (after_rounds m c n s b)).stage v.slot)
+      go : AllByRecursion (OwnLine v) (map strike (written (take_line n) departed (departures m c n s b) (after_rounds m c n s b))) × FliesAs v ((through departed (departures m c n s b) (after_rounds m c n s b)).stage v.slot)
+          → AllByRecursion (OwnLine v) (map strike (written (event_line n) (completed c n) (step_events m s) b ++ written (take_line n) departed (departures m c n s b) (after_rounds m c n s b))) × FliesAs v ((through departed (departures m c n s b) (after_rounds m c n s b)).stage v.slot)
       go y = (struck_all v (written (event_line n) (completed c n) (step_events m s) b) (written (take_line n) departed (departures m c n s b) (after_rounds m c n s b)) (own_events v c n (step_events m s) b f) y.0, y.1)
 
   -- ---- a submit
 
-  own_submit : (x : Running) (d b : ℕ) (k : Kind) (row : ℕ) (q : Role) → role_of c d ≡ q → FliesAs v (x.tables.stage v.slot) → All (OwnLine v) (map strike (submit_lines x d b k row q)) × FliesAs v ((submitted m x d b k row q).tables.stage v.slot)
+  own_submit : (x : Running) (d b : ℕ) (k : Kind) (row : ℕ) (q : Role) → role_of c d ≡ q → FliesAs v (x.tables.stage v.slot) → AllByRecursion (OwnLine v) (map strike (submit_lines x d b k row q)) × FliesAs v ((submitted m x d b k row q).tables.stage v.slot)
   unfolding submitted submit_lines taken_open enqueued
   own_submit x d b k row unset is f = (tt, f)
   own_submit x d b k row (opened share) is f = (((λ e. absurd (apart e)), tt), go (eqb v.slot (slot_in_turn d share (x.serial d))) refl)
@@ -136,28 +136,28 @@ module _ (m : Meaning (List ℕ)) (c : Settings) (sound : Sound c) (v : Vertex) 
 
   -- ---- a run
 
-  own_run : (cs : List Call) (x : Running) → FliesAs v (x.tables.stage v.slot) → All (OwnLine v) (bus_record (trace m (running c x) cs))
+  own_run : (cs : List Call) (x : Running) → FliesAs v (x.tables.stage v.slot) → AllByRecursion (OwnLine v) (bus_record (trace m (running c x) cs))
   unfolding trace outcome ticked
   own_run [] x f = tt
   own_run (sets z ∷ cs) x f = own_run cs x f
   own_run (begins ∷ cs) x f = own_run cs x f
-  own_run (submit d b k row ∷ cs) x f = by_refusal (λ u. All (OwnLine v) (map strike u.bus ++ bus_record (trace m u.after cs))) (submit_refusal c x d b k row) (running c x) (submit_outcome m c x d b k row) (λ j. own_run cs x f)
+  own_run (submit d b k row ∷ cs) x f = by_refusal (λ u. AllByRecursion (OwnLine v) (map strike u.bus ++ bus_record (trace m u.after cs))) (submit_refusal c x d b k row) (running c x) (submit_outcome m c x d b k row) (λ j. own_run cs x f)
       (let y = own_submit x d b k row (role_of c d) refl f in All-append (OwnLine v) (map strike (submit_lines x d b k row (role_of c d))) _ y.0 (own_run cs (submitted m x d b k row (role_of c d)) y.1))
-  own_run (ticks l n ∷ cs) x f = by_refusal (λ u. All (OwnLine v) (map strike u.bus ++ bus_record (trace m u.after cs))) (tick_refusal x l n) (running c x) (tick_outcome m c x) (λ j. own_run cs x f)
+  own_run (ticks l n ∷ cs) x f = by_refusal (λ u. AllByRecursion (OwnLine v) (map strike u.bus ++ bus_record (trace m u.after cs))) (tick_refusal x l n) (running c x) (tick_outcome m c x) (λ j. own_run cs x f)
       (let y = own_tick x.tick x.controller x.tables f in All-append (OwnLine v) (map strike (lines m c x.tick x.controller x.tables)) _ y.0 (own_run cs (ticked m c x) y.1))
 
 -- what holds of each vertex holds of all
-each : (P : Vertex → Type 0) (vs : List Vertex) → ((v : Vertex) → In v vs → P v) → All P vs
+each : (P : Vertex → Type 0) (vs : List Vertex) → ((v : Vertex) → In v vs → P v) → AllByRecursion P vs
 each P [] h = tt
 each P (v ∷ vs) h = (h v (inl refl), each P vs (λ w i. h w (inr i)))
 
 module _ (m : Meaning (List ℕ)) where
   abbrev LawOf : Settings → List Entry → Type 0
-  LawOf c es = All (λ v. All (OwnLine v) (bus_record es)) (vertices c)
+  LawOf c es = AllByRecursion (λ v. AllByRecursion (OwnLine v) (bus_record es)) (vertices c)
 
   begun : (cs : List Call) (c : Settings) (s : List ℕ) → Sound c → LawOf c (trace m (running c (started c s)) cs)
   unfolding started
-  begun cs c s h = each (λ v. All (OwnLine v) (bus_record (trace m (running c (started c s)) cs))) (vertices c) (λ v i. own_run m c h v i cs (started c s) tt)
+  begun cs c s h = each (λ v. AllByRecursion (OwnLine v) (bus_record (trace m (running c (started c s)) cs))) (vertices c) (λ v i. own_run m c h v i cs (started c s) tt)
 
   own_set : (cs : List Call) (c : Settings) (s : List ℕ) → Sound c → LawOf (made_by m (setting c s) cs) (trace m (setting c s) cs)
   unfolding trace outcome made_from

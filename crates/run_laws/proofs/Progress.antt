@@ -1,7 +1,7 @@
 -- A waiting request leaves, and is answered, in time: one tick.
 use Rattle.std.proofs.Common.{◌≡◌, ℕ, suc, ◌+◌, ◌*◌, ◌<◌, ◌≤◌, Bool, true, false, cond, ◌⊎◌, List, [], ◌∷◌, length, Some, None, Option, sym, refl, ap, ◌∙◌, subst, inl, inr, mul-le-mul_right, arith}
 use Rattle.std.proofs.lemmas.Bool.{ne_eqb, true≢false, and_parts}
-use Rattle.std.specs.List.{AllByRecursion as All}
+use Rattle.std.specs.List.{AllByRecursion}
 use Rattle.interface.specs.Lawful.{Lawful}
 use Rattle.interface.specs.Meaning.{Held}
 use Rattle.interface.specs.declared.Kind.{Kind}
@@ -42,7 +42,7 @@ pub undone : (c : Settings) (ℓ : ℕ) (s : ℕ → Stage) (i : ℕ) → i < si
 unfolding lane_vertices
 undone c ℓ s i h e = undone_all s (ℓ * 8) (pattern_at c ℓ).edges (pattern_at c ℓ).spots i h e
 
-free_out : (t : ℕ) (hs : List Held) (vs : List Vertex) → All (λ v. holds v.slot hs ≡ false) vs → holds t hs ≡ true → in_slots t vs ≡ false
+free_out : (t : ℕ) (hs : List Held) (vs : List Vertex) → AllByRecursion (λ v. holds v.slot hs ≡ false) vs → holds t hs ≡ true → in_slots t vs ≡ false
 free_out t hs [] h e = refl
 free_out t hs (v ∷ vs) h e = rw (ne_eqb v.slot t (λ z. true≢false (sym e ∙ ap (λ y. holds y hs) (sym z) ∙ h.0))) (free_out t hs vs h.1 e)
 
@@ -143,7 +143,7 @@ module _ (r : Controller) (laws : Lawful r.meaning) (c : Settings) (sound : Soun
               record { slot = f.slot; only = z.1; absent = z.0; sure = rw lefts (let p = f.sure in omega arith); left_some = rw lefts (lasts) },
             )
           where
-            all_third : (vs : List Vertex) → All (Free r laws (controller_2 r c x)) vs → All (λ v. holds v.slot (r.meaning.held (controller_2 r c x)) ≡ false) vs
+            all_third : (vs : List Vertex) → AllByRecursion (Free r laws (controller_2 r c x)) vs → AllByRecursion (λ v. holds v.slot (r.meaning.held (controller_2 r c x)) ≡ false) vs
             all_third [] h = tt
             all_third (v ∷ vs) h = (h.0.2, all_third vs h.1)
 

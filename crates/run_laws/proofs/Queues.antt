@@ -3,7 +3,7 @@ use Rattle.std.proofs.Common.{◌≡◌, ℕ, suc, Bool, true, false, cond, ◌&
 use Rattle.std.proofs.lemmas.List.Elements.{filter-append}
 use Rattle.std.proofs.lemmas.List.{map-append}
 use Rattle.std.proofs.lemmas.Bool.{eqb-true, eqb-false, eq-eqb, ne_eqb, true≢false, or_parts, cases_eq}
-use Rattle.std.specs.List.{AllByRecursion as All}
+use Rattle.std.specs.List.{AllByRecursion}
 use Rattle.interface.specs.declared.Event.TheVariants.{Done, Issue}
 use Rattle.interface.specs.declared.Event.{Event}
 use Rattle.interface.specs.declared.Kind.TheVariants.{Read, Write}
@@ -28,7 +28,7 @@ carries s (done m) = false
 
 -- s is not in the queue
 abbrev pub Absent : ℕ → List Waiting → Type 0
-Absent s q = All (λ w. eqb w.serial s ≡ false) q
+Absent s q = AllByRecursion (λ w. eqb w.serial s ≡ false) q
 
 -- s is in the queue, for bank b and kind k, with at most j older ones of these before it
 pub data Waits (b : ℕ) (k : Kind) (s : ℕ) : ℕ → List Waiting → Type 0 where

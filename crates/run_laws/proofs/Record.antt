@@ -3,7 +3,7 @@ use Rattle.std.proofs.Common.{◌≡◌, ℕ, suc, Bool, true, false, cond, eqb,
 use mathlib.Core.Path.{fun_ext}
 use Rattle.std.proofs.lemmas.List.{map-append, append_assoc}
 use Rattle.std.proofs.lemmas.Bool.{eqb-true}
-use Rattle.std.specs.List.{flat_map, AllByRecursion as All}
+use Rattle.std.specs.List.{flat_map, AllByRecursion}
 use Rattle.interface.specs.Lawful.{Lawful}
 use Rattle.interface.specs.Meaning.{Meaning}
 use Rattle.interface.specs.declared.Event.TheVariants.{Done, Issue}
@@ -179,13 +179,13 @@ module _ (r : Meaning (List ℕ)) (c : Settings) where
   read_append [] ms = refl
   read_append (l ∷ ls) ms = ap (λ z. seen l.letter l ++ z) (read_append ls ms) ∙ sym (append_assoc (seen l.letter l) (read ls) (read ms))
 
-  quiet : {A : Type 0} (P : A → Type 0) (out : A → Tables → List Line) (f : A → Tables → Tables) → ((x : A) (b : Tables) → P x → read (struck (out x b)) ≡ []) → (xs : List A) (b : Tables) → All P xs → read (struck (written out f xs b)) ≡ []
+  quiet : {A : Type 0} (P : A → Type 0) (out : A → Tables → List Line) (f : A → Tables → Tables) → ((x : A) (b : Tables) → P x → read (struck (out x b)) ≡ []) → (xs : List A) (b : Tables) → AllByRecursion P xs → read (struck (written out f xs b)) ≡ []
   unfolding written
   quiet P out f q [] b h = refl
   quiet P out f q (x ∷ xs) b h = ap read (map-append strike (out x b) (written out f xs (f x b))) ∙ read_append (struck (out x b)) (struck (written out f xs (f x b)))
       ∙ ap (λ z. z ++ read (struck (written out f xs (f x b)))) (q x b h.0) ∙ quiet P out f q xs (f x b) h.1
 
-  every : {A : Type 0} (xs : List A) → All (λ x. Unit {0}) xs
+  every : {A : Type 0} (xs : List A) → AllByRecursion (λ x. Unit {0}) xs
   every [] = tt
   every (x ∷ xs) = (tt, every xs)
 
@@ -208,12 +208,12 @@ module _ (r : Meaning (List ℕ)) (c : Settings) where
   unfolding take_line
   take_quiet n v b h = rw h
 
-  leaving_all : (P : Vertex → Type 0) (n : ℕ) (b : Tables) (vs : List Vertex) → All P vs → All P (leaving n b vs)
+  leaving_all : (P : Vertex → Type 0) (n : ℕ) (b : Tables) (vs : List Vertex) → AllByRecursion P vs → AllByRecursion P (leaving n b vs)
   unfolding leaving
   leaving_all P n b [] h = tt
   leaving_all P n b (v ∷ vs) h = go (leaves n b v) (leaving_all P n b vs h.1)
     where
-      go : (t : Bool) → All P (leaving n b vs) → All P (cond t (v ∷ leaving n b vs) (leaving n b vs))
+      go : (t : Bool) → AllByRecursion P (leaving n b vs) → AllByRecursion P (cond t (v ∷ leaving n b vs) (leaving n b vs))
       go true rest = (h.0, rest)
       go false rest = rest
 

@@ -2,7 +2,7 @@
 use Rattle.std.proofs.Common.{◌≡◌, ℕ, suc, ◌+◌, ◌<◌, ◌≤◌, Bool, true, false, cond, not, ◌||◌, eqb, List, [], ◌∷◌, ◌++◌, map, length, Some, None, Option, sym, refl, ap, ◌∙◌, subst, inl, inr, arith}
 use Rattle.std.proofs.lemmas.List.{length-append}
 use Rattle.std.proofs.lemmas.Bool.{eqb-true, eq-eqb, ne_eqb, true≢false, or_parts, or_cases, or_left, or_right, and_parts}
-use Rattle.std.specs.List.{AllByRecursion as All}
+use Rattle.std.specs.List.{AllByRecursion}
 use Rattle.interface.proofs.Runs.{reached_keeps}
 use Rattle.interface.proofs.Takes.{take_ok}
 use Rattle.interface.specs.Lawful.{Lawful, aged, without, ended}
@@ -190,7 +190,7 @@ module _ (r : Controller) (laws : Lawful r.meaning) where
       apart : (t : ℕ) → has t (held_slots (r.meaning.held (controller_2 r c x))) ≡ true → has t (slots_of (departing r c x)) ≡ false
       apart t e = has_slots t (departing r c x) ∙ out (departing r c x) (departing_free r laws c sound x inv) (sym (has_held t (r.meaning.held (controller_2 r c x))) ∙ e)
         where
-          out : (vs : List Vertex) → All (Free r laws (controller_2 r c x)) vs → holds t (r.meaning.held (controller_2 r c x)) ≡ true → in_slots t vs ≡ false
+          out : (vs : List Vertex) → AllByRecursion (Free r laws (controller_2 r c x)) vs → holds t (r.meaning.held (controller_2 r c x)) ≡ true → in_slots t vs ≡ false
           out [] h k = refl
           out (v ∷ vs) h k = rw (ne_eqb v.slot t (λ z. true≢false (sym k ∙ ap (λ q. holds q (r.meaning.held (controller_2 r c x))) (sym z) ∙ h.0.2))) (out vs h.1 k)
 

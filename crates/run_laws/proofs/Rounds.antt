@@ -2,7 +2,7 @@
 use Rattle.std.proofs.Common.{◌≡◌, ℕ, zero, suc, ◌+◌, ◌<◌, ◌≤◌, max, Bool, true, false, cond, eqb, ◌⊎◌, List, [], ◌∷◌, ◌++◌, map, length, Some, None, Option, sym, refl, ap, ◌∙◌, inl, inr, arith}
 use Rattle.std.proofs.lemmas.Bool.{eqb-true}
 use Rattle.std.specs.Option.{option_map}
-use Rattle.std.specs.List.{AllByRecursion as All}
+use Rattle.std.specs.List.{AllByRecursion}
 use Rattle.patterns.specs.Due.{later, greatest, greatest_or, release, incoming, due, round_end}
 use Rattle.patterns.specs.declared.edge.Edge.{Edge}
 use Rattle.model.specs.Settings.{Pattern}
@@ -45,9 +45,9 @@ abbrev pub Late : ℕ → Option ℕ → Type 0
 Late n o = (t : ℕ) → o ≡ Some t → n ≤ t
 
 abbrev Low : ℕ → List Edge → Type 0
-Low n es = All (λ (e : Edge). e.source < n) es
+Low n es = AllByRecursion (λ (e : Edge). e.source < n) es
 
-pub incoming_low : (n i : ℕ) (es : List Edge) → i < n → All (λ (e : Edge). e.source < e.target) es → Low n (incoming i es)
+pub incoming_low : (n i : ℕ) (es : List Edge) → i < n → AllByRecursion (λ (e : Edge). e.source < e.target) es → Low n (incoming i es)
 incoming_low n i [] h a = tt
 incoming_low n i (e ∷ es) h a = go (eqb e.target i) refl (incoming_low n i es h a.1)
   where
@@ -72,7 +72,7 @@ module _ (n : ℕ) (f g : ℕ → Option ℕ) where
   map_agree [] l a = refl
   map_agree (e ∷ es) l a = ap (λ z. option_map (λ c. c + e.weight) z ∷ map (release f) es) (a e.source l.0) ∙ ap (λ z. release g e ∷ z) (map_agree es l.1 a)
 
-  pub due_agree : (s i : ℕ) (es : List Edge) → i < n → All (λ (e : Edge). e.source < e.target) es → Agree → due s f es i ≡ due s g es i
+  pub due_agree : (s i : ℕ) (es : List Edge) → i < n → AllByRecursion (λ (e : Edge). e.source < e.target) es → Agree → due s f es i ≡ due s g es i
   due_agree s i es h o a = ap (greatest_or s) (map_agree (incoming i es) (incoming_low n i es h o) a)
 
   later_some : (a b : Option ℕ) (t : ℕ) → later a b ≡ Some t → (x : ℕ) × (y : ℕ) × (a ≡ Some x) × (b ≡ Some y) × (max x y ≡ t)
@@ -102,7 +102,7 @@ module _ (n : ℕ) (f g : ℕ → Option ℕ) where
   or_stays s (e ∷ es) t l ext h = greatest_stays e es t l ext h
 
   -- a due tick stays what it is
-  pub due_stays : (s i : ℕ) (es : List Edge) (t : ℕ) → i < n → All (λ (e : Edge). e.source < e.target) es → Extends → due s f es i ≡ Some t → due s g es i ≡ Some t
+  pub due_stays : (s i : ℕ) (es : List Edge) (t : ℕ) → i < n → AllByRecursion (λ (e : Edge). e.source < e.target) es → Extends → due s f es i ≡ Some t → due s g es i ≡ Some t
   due_stays s i es t h o ext d = or_stays s (incoming i es) t (incoming_low n i es h o) ext d
 
   release_new : (k : ℕ) (e : Edge) (t : ℕ) → e.source < n → Extends → New k → release g e ≡ Some t → (release f e ≡ Some t) ⊎ (k ≤ t)
@@ -138,7 +138,7 @@ module _ (n : ℕ) (f g : ℕ → Option ℕ) where
   or_new k s (e ∷ es) l ext new late t h = elim (greatest_new k e es t l ext new h) [ inl z ↦ late t z | inr z ↦ z ]
 
   -- a due tick that has not come before k has not, with what is new at k or later
-  pub due_new : (k s i : ℕ) (es : List Edge) → i < n → All (λ (e : Edge). e.source < e.target) es → Extends → New k → Late k (due s f es i) → Late k (due s g es i)
+  pub due_new : (k s i : ℕ) (es : List Edge) → i < n → AllByRecursion (λ (e : Edge). e.source < e.target) es → Extends → New k → Late k (due s f es i) → Late k (due s g es i)
   due_new k s i es h o ext new late = or_new k s (incoming i es) (incoming_low n i es h o) ext new late
 
   -- ---- ends of rounds
@@ -172,7 +172,7 @@ end_none f (suc (suc n)) u h e = elim (last (suc n)) [
     last k = elim (Rattle.std.proofs.lemmas.Bool.cases_eq (suc n) u) [ inl z ↦ inl z | inr z ↦ inr (omega (arith, z)) ]
 
 -- where no vertex is done, only those without incoming edges are due
-pub due_blank : (n k s i : ℕ) (f : ℕ → Option ℕ) (es : List Edge) → i < n → All (λ (e : Edge). e.source < e.target) es → ((u : ℕ) → u < n → f u ≡ None) → k ≤ s → Late k (due s f es i)
+pub due_blank : (n k s i : ℕ) (f : ℕ → Option ℕ) (es : List Edge) → i < n → AllByRecursion (λ (e : Edge). e.source < e.target) es → ((u : ℕ) → u < n → f u ≡ None) → k ≤ s → Late k (due s f es i)
 due_blank n k s i f es h o blank ks = go (incoming i es) (incoming_low n i es h o)
   where
     go : (ds : List Edge) → Low n ds → Late k (greatest_or s (map (release f) ds))
@@ -182,7 +182,7 @@ due_blank n k s i f es h o blank ks = go (incoming i es) (incoming_low n i es h 
 
 -- ---- the rounds of a lane, as Done ticks come in
 
-module _ (first : ℕ) (p : Pattern) (order : All (λ (e : Edge). e.source < e.target) p.edges) (dn en : ℕ → List ℕ)
+module _ (first : ℕ) (p : Pattern) (order : AllByRecursion (λ (e : Edge). e.source < e.target) p.edges) (dn en : ℕ → List ℕ)
     (more : (u r x : ℕ) → nth (dn u) r ≡ Some x → nth (en u) r ≡ Some x) where
   ext : (r : ℕ) → Extends (length p.spots) (λ u. nth (dn u) r) (λ u. nth (en u) r)
   ext r u h x e = more u r x e

@@ -1,6 +1,6 @@
 -- The open takings and the ticks of a run, as one row.
 use Rattle.std.proofs.Common.{◌≡◌, ℕ, suc, ◌≤◌, List, [], ◌∷◌, sym, refl, ap, arith}
-use Rattle.std.specs.List.{AllByRecursion as All}
+use Rattle.std.specs.List.{AllByRecursion}
 use Rattle.interface.specs.declared.Kind.{Kind}
 use Rattle.run_laws.specs.Runs.{Taking}
 
@@ -18,13 +18,13 @@ passes [] = 0
 passes (took d b k ∷ t) = passes t
 passes (passed ∷ t) = suc (passes t)
 
-late : (n m : ℕ) (t : List Ev) → n ≤ m → All (λ a. n ≤ a.tick) (takes_in m t)
+late : (n m : ℕ) (t : List Ev) → n ≤ m → AllByRecursion (λ a. n ≤ a.tick) (takes_in m t)
 late n m [] h = tt
 late n m (took d b k ∷ t) h = (h, late n m t h)
 late n m (passed ∷ t) h = late n (suc m) t (omega arith)
 
 -- of a row that begins with x, x is in it
-first_of : {X : Type 0} (P : X → Type 0) (x : X) (xs ys : List X) → (x ∷ xs) ≡ ys → All P ys → P x
+first_of : {X : Type 0} (P : X → Type 0) (x : X) (xs ys : List X) → (x ∷ xs) ≡ ys → AllByRecursion P ys → P x
 first_of P x xs ys e h = (rw (← e) at h).0
 
 nil≢cons : {X : Type 0} (x : X) (xs : List X) → [] ≡ x ∷ xs → ⊥

@@ -1,7 +1,7 @@
 -- What every submit keeps.
 use Rattle.std.proofs.Common.{◌≡◌, ℕ, zero, suc, ◌+◌, ◌*◌, ◌%◌, ◌<◌, ◌≤◌, Bool, true, false, cond, not, ◌||◌, eqb, ltb, leb, ◌⊎◌, List, [], ◌∷◌, length, get_or, None, sym, refl, ap, ◌∙◌, subst, inl, inr, arith}
 use Rattle.std.proofs.lemmas.Bool.{eqb-true, eqb-false, eq-eqb, ne_eqb, true≢false, ltb-false, not-false, or_left, or_right, cases_eq}
-use Rattle.std.specs.List.{AllByRecursion as All}
+use Rattle.std.specs.List.{AllByRecursion}
 use Rattle.interface.proofs.Bools.{or_right as or_none}
 use Rattle.interface.specs.Lawful.{Lawful}
 use Rattle.interface.specs.Meaning.{Call, after, take_refusal}
@@ -104,7 +104,7 @@ module _ (r : Controller) (laws : Lawful r.meaning) (c : Settings) (sound : Soun
         same_done t true z = sym (ap (λ q. done_tick (x.tables.stage q)) (eqb-true t _ z) ∙ (still_not _ free).1)
         same_done t false z = refl
 
-        every : (vs : List Vertex) → All (λ v. done_tick (put x.tables.stage (slot_in_turn e share (x.serial e)) (flying b k (Real row (x.serial e))) v.slot) ≡ done_tick (x.tables.stage v.slot)) vs
+        every : (vs : List Vertex) → AllByRecursion (λ v. done_tick (put x.tables.stage (slot_in_turn e share (x.serial e)) (flying b k (Real row (x.serial e))) v.slot) ≡ done_tick (x.tables.stage v.slot)) vs
         every [] = tt
         every (v ∷ vs) = (same_done v.slot _ refl, every vs)
 

@@ -1,6 +1,6 @@
 -- What holds of every run over a controller of kind m, if that keeps the interface's laws.
 use Rattle.std.specs.Prelude.{◌≡◌, ℕ, ◌+◌, ◌<◌, ◌≤◌, true, false, ◌↔◌, List, [], ◌∷◌, ◌++◌, length, None, ◌≢◌}
-use Rattle.std.specs.List.{AllByRecursion as All}
+use Rattle.std.specs.List.{AllByRecursion}
 use Rattle.interface.specs.Emptied.{emptied}
 use Rattle.interface.specs.Meaning as controller
 use Rattle.interface.specs.Meaning.{Meaning, after, take_refusal, step_refusal}
@@ -61,7 +61,7 @@ OwnLine v l = l.slot ≡ v.slot → (l.domain ≡ domain_of v.slot) × (l.bank �
 -- The line law. In every run all lines of a vertex's slot, T, I and D, carry the vertex's domain, bank and kind.
 abbrev pub LineLaw : Meaning (List ℕ) → Type 0
 LineLaw m = (b : List ℕ) (cs : List Call)
-    → All (λ v. All (OwnLine v) (bus_record (run m b cs))) (vertices (made (settings (run m b cs))))
+    → AllByRecursion (λ v. AllByRecursion (OwnLine v) (bus_record (run m b cs))) (vertices (made (settings (run m b cs))))
 
 -- ---- what the laws rest on
 
@@ -93,7 +93,7 @@ pub record SmallEntry (e : Entry) : Type 0 where
 -- The limits. In every run the controller refuses nothing, and no number grows beyond its limit.
 abbrev pub Limits : Meaning (List ℕ) → Type 0
 Limits m = (b : List ℕ) (cs : List Call)
-    → All SmallEntry (run m b cs)
+    → AllByRecursion SmallEntry (run m b cs)
     × ((c : Settings) (x : Running) → state_after m (new m b) cs ≡ running c x → NeverRefused m c x)
 
 -- ---- the whole

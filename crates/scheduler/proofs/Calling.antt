@@ -1,7 +1,7 @@
 -- Any call of a run: what it answers and leaves, and how it extends the run before it.
 use Rattle.std.proofs.Common.{◌≡◌, ℕ, ◌≤◌, min, ◌||◌, ltb, leb, List, [], ◌∷◌, ◌++◌, length, take, Some, None, Ok, Err, Option, Result, sym, refl, ap, ◌∙◌, subst, arith}
 use Rattle.std.proofs.lemmas.Bool.{ltb-false}
-use Rattle.std.specs.List.{AllByRecursion as All}
+use Rattle.std.specs.List.{AllByRecursion}
 use Rattle.interface.specs.Lawful.{Lawful}
 use Rattle.interface.specs.Meaning.{Meaning, check}
 use Rattle.model.specs.declared.Line.{Line}
@@ -164,7 +164,7 @@ module _ (lb : List Line) (nb : List Notice) where
 
 -- ---- the run goes on
 
-last_of : {X : Type 0} (P : X → Type 0) (xs : List X) (x : X) → All P (xs ++ (x ∷ [])) → P x
+last_of : {X : Type 0} (P : X → Type 0) (xs : List X) (x : X) → AllByRecursion P (xs ++ (x ∷ [])) → P x
 last_of P [] x h = h.0
 last_of P (y ∷ xs) x h = last_of P xs x h.1
 
@@ -185,7 +185,7 @@ fits : (m : Meaning (List ℕ)) → Lawful m → (b : List ℕ) (cs : List model
 fits m lawful b cs l n call ls ns e =
     let c = made_call l n call in
     let w = state_after m (new m b) cs in
-    let all : All SmallEntry (run m b cs ++ (entry_at m w c (outcome m w c).reply ∷ [])) = subst (All SmallEntry) (run_append m b cs c) (limits m lawful b (cs ++ (c ∷ []))).0 in
+    let all : AllByRecursion SmallEntry (run m b cs ++ (entry_at m w c (outcome m w c).reply ∷ [])) = subst (AllByRecursion SmallEntry) (run_append m b cs c) (limits m lawful b (cs ++ (c ∷ []))).0 in
     let small : SmallReply (wrote ls ns) = subst SmallReply e (last_of SmallEntry (run m b cs) (entry_at m w c (outcome m w c).reply) all).reply in
     let large = room m l n ls ns w call e in
     (omega (arith, small.0, large.0), omega (arith, small.1, large.1))

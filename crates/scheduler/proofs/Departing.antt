@@ -4,7 +4,7 @@ use Rattle.std.proofs.lemmas.List.{append-nil, append_assoc, map-append}
 use Rattle.std.proofs.ByRecursion.{All-append}
 use Rattle.std.proofs.lemmas.Bool.{ltb-true}
 use Rattle.std.specs.Option.{option_map}
-use Rattle.std.specs.List.{AllByRecursion as All, slice_get}
+use Rattle.std.specs.List.{AllByRecursion, slice_get}
 use Rattle.interface.specs.declared.Request.{Request}
 use Rattle.interface.specs.Meaning.{any}
 use Rattle.patterns.specs.declared.edge.Edge.{Edge}
@@ -61,7 +61,7 @@ module _ {A : Type 0} (f : ℕ → List A) where
       ap (λ (xs : List A). f a ++ xs) (span_split (suc a) j k m (omega (arith, e)) ∙ ap (λ x. span (suc a) j ++ span x k) q)
       ∙ sym (append_assoc (f a) (span (suc a) j) (span (a + suc j) k))
 
-  span_all : (P : A → Type 0) (a k top : ℕ) → a + k ≤ top → ((i : ℕ) → i < top → All P (f i)) → All P (span a k)
+  span_all : (P : A → Type 0) (a k top : ℕ) → a + k ≤ top → ((i : ℕ) → i < top → AllByRecursion P (f i)) → AllByRecursion P (span a k)
   unfolding span
   span_all P a zero top le h = tt
   span_all P a (suc k) top le h = All-append P (f a) (span (suc a) k) (h a (omega (arith, le))) (span_all P (suc a) k top (omega (arith, le)) h)
@@ -224,13 +224,13 @@ module _ (b : BoardView) (s : StoreView) (used : ℕ) (ok : Sound b s used) (n :
         go dom ih true = ap (λ d. request_from d (ℓ * 8 + k) w ∷ map request_of later) dom ∙ ap (λ (qs : List Request). request_from (ℓ / 8) (ℓ * 8 + k) w ∷ qs) ih
         go dom ih false = ih
 
-    lane_goes : ℓ < 64 → (k : ℕ) (vs : List Vertex) → k + length vs ≤ 8 → ((j : ℕ) → slice_get l.vertices (k + j) ≡ slice_get vs j) → All (Goes b) (lane_leaving n l (ℓ / 8) (ℓ * 8) k vs)
+    lane_goes : ℓ < 64 → (k : ℕ) (vs : List Vertex) → k + length vs ≤ 8 → ((j : ℕ) → slice_get l.vertices (k + j) ≡ slice_get vs j) → AllByRecursion (Goes b) (lane_leaving n l (ℓ / 8) (ℓ * 8) k vs)
     unfolding lane_leaving
     lane_goes low k [] few at = tt
     lane_goes low k (w ∷ vs) few at = go (omega (arith, few)) (first_at k w vs at) (lane_goes low (suc k) vs (omega (arith, few)) (next_at k w vs at)) (leaves_in n l k w) refl
       where
-        go : k < 8 → slice_get l.vertices k ≡ Some w → All (Goes b) (lane_leaving n l (ℓ / 8) (ℓ * 8) (suc k) vs) → (t : Bool) → leaves_in n l k w ≡ t
-            → All (Goes b) (cond t (request_from (ℓ / 8) (ℓ * 8 + k) w ∷ lane_leaving n l (ℓ / 8) (ℓ * 8) (suc k) vs) (lane_leaving n l (ℓ / 8) (ℓ * 8) (suc k) vs))
+        go : k < 8 → slice_get l.vertices k ≡ Some w → AllByRecursion (Goes b) (lane_leaving n l (ℓ / 8) (ℓ * 8) (suc k) vs) → (t : Bool) → leaves_in n l k w ≡ t
+            → AllByRecursion (Goes b) (cond t (request_from (ℓ / 8) (ℓ * 8 + k) w ∷ lane_leaving n l (ℓ / 8) (ℓ * 8) (suc k) vs) (lane_leaving n l (ℓ / 8) (ℓ * 8) (suc k) vs))
         go lt here ih true e = (
           record {
             low = omega (arith, low, lt);
@@ -266,10 +266,10 @@ module _ (b : BoardView) (s : StoreView) (used : ℕ) (ok : Sound b s used) (n :
       go None None e f = refl
       go None (Some l) e f = lane_from ℓ l e f 0 l.vertices (few_here ℓ l e f) (all_here ℓ l e f)
 
-  part_goes : (ℓ : ℕ) → ℓ < 64 → All (Goes b) (part n b ℓ)
+  part_goes : (ℓ : ℕ) → ℓ < 64 → AllByRecursion (Goes b) (part n b ℓ)
   part_goes ℓ low = go (get_or b.shares (ℓ / 8) None) (lane_at b.lanes ℓ) refl refl
     where
-      go : (o : Option ℕ) (x : Option LaneView) → get_or b.shares (ℓ / 8) None ≡ o → lane_at b.lanes ℓ ≡ x → All (Goes b) (part_by n ℓ o x)
+      go : (o : Option ℕ) (x : Option LaneView) → get_or b.shares (ℓ / 8) None ≡ o → lane_at b.lanes ℓ ≡ x → AllByRecursion (Goes b) (part_by n ℓ o x)
       go (Some share) x e f = tt
       go None None e f = tt
       go None (Some l) e f = lane_goes ℓ l e f low 0 l.vertices (few_here ℓ l e f) (all_here ℓ l e f)
@@ -347,5 +347,5 @@ module _ (b : BoardView) (s : StoreView) (used : ℕ) (ok : Sound b s used) (n :
       ∙ span_leaving n (tables_of b s) (lane_vertices (settings_of b)) (part n b) 0 64 lane_part)
 
   -- and each of them is a vertex that has not left
-  pub all_go : All (Goes b) (board_leaving n b)
-  all_go = subst (All (Goes b)) (sym board_span) (span_all (part n b) (Goes b) 0 64 64 (omega arith) part_goes)
+  pub all_go : AllByRecursion (Goes b) (board_leaving n b)
+  all_go = subst (AllByRecursion (Goes b)) (sym board_span) (span_all (part n b) (Goes b) 0 64 64 (omega arith) part_goes)

@@ -4,7 +4,7 @@ use mathlib.Core.Path.{fun_ext}
 use Rattle.std.proofs.lemmas.List.{get_or-set_same, get_or-set_other}
 use Rattle.std.proofs.lemmas.Bool.{eqb-true, eqb-false, eq-eqb}
 use Rattle.std.specs.Option.{option_map}
-use Rattle.std.specs.List.{AllByRecursion as All}
+use Rattle.std.specs.List.{AllByRecursion}
 use Rattle.interface.specs.Meaning.{Meaning, Call, after}
 use Rattle.interface.specs.declared.Kind.{Kind}
 use Rattle.interface.specs.declared.Request.{Request}
@@ -152,7 +152,7 @@ goes_on b t q g = go (eqb q.slot t) refl
       not_done = g.not_done;
     }
 
-all_on : (b : BoardView) (t : ℕ) (qs : List Request) → All (Goes b) qs → All (Goes (advanced_board Due t b)) qs
+all_on : (b : BoardView) (t : ℕ) (qs : List Request) → AllByRecursion (Goes b) qs → AllByRecursion (Goes (advanced_board Due t b)) qs
 all_on b t [] h = tt
 all_on b t (q ∷ qs) h = (goes_on b t q h.0, all_on b t qs h.1)
 
@@ -163,14 +163,14 @@ abbrev pub leave_line : ℕ → Request → Tables → List Line
 leave_line n q b = line_of letter.T n q.slot (flying q.bank q.kind (oldest q.bank q.kind (b.queue q.domain)))
 
 module _ (n used : ℕ) where
-  pub all_gone : (qs : List Request) (b : BoardView) (s : StoreView) → Sound b s used → All (Goes b) qs → tables_of (departed_board qs b) (all_loaded qs s) ≡ through departs qs (tables_of b s)
+  pub all_gone : (qs : List Request) (b : BoardView) (s : StoreView) → Sound b s used → AllByRecursion (Goes b) qs → tables_of (departed_board qs b) (all_loaded qs s) ≡ through departs qs (tables_of b s)
   unfolding departed_board all_loaded through
   all_gone [] b s ok h = refl
   all_gone (q ∷ qs) b s ok h =
       all_gone qs (advanced_board Due q.slot b) (loaded q s) (sound_gone b s used ok q h.0) (all_on b q.slot qs h.1)
       ∙ ap (through departs qs) (one_gone b s used ok q h.0)
 
-  pub lines_gone : (qs : List Request) (b : BoardView) (s : StoreView) → Sound b s used → All (Goes b) qs → load_lines n qs s ≡ written (leave_line n) departs qs (tables_of b s)
+  pub lines_gone : (qs : List Request) (b : BoardView) (s : StoreView) → Sound b s used → AllByRecursion (Goes b) qs → load_lines n qs s ≡ written (leave_line n) departs qs (tables_of b s)
   unfolding load_lines written queue_at
   lines_gone [] b s ok h = refl
   lines_gone (q ∷ qs) b s ok h =
@@ -178,7 +178,7 @@ module _ (n used : ℕ) where
       ∙ ap (λ ls. leave_line n q (tables_of b s) ++ ls) (lines_gone qs (advanced_board Due q.slot b) (loaded q s) (sound_gone b s used ok q h.0) (all_on b q.slot qs h.1)
       ∙ ap (written (leave_line n) departs qs) (one_gone b s used ok q h.0))
 
-  pub serials_gone : (qs : List Request) (b : BoardView) (s : StoreView) → Sound b s used → All (Goes b) qs → ◌≡◌ {A = ℕ → ℕ} (serial_at (all_loaded qs s)) (serial_at s)
+  pub serials_gone : (qs : List Request) (b : BoardView) (s : StoreView) → Sound b s used → AllByRecursion (Goes b) qs → ◌≡◌ {A = ℕ → ℕ} (serial_at (all_loaded qs s)) (serial_at s)
   unfolding all_loaded
   serials_gone [] b s ok h = refl
   serials_gone (q ∷ qs) b s ok h =
