@@ -23,7 +23,7 @@ use Rattle.board.specs.declared.slot.OpenSlot.TheVariants.{Free, Held}
 use Rattle.board.specs.Sets.{shares_view, spot_of, pattern_of, role_at, is_unset_at, formed, domain_formed, lane_formed}
 use Rattle.board.specs.Slots.{is_free, turn_of, lane_serves}
 use Rattle.board.specs.Boards.{BoardView, board_view, settings_of, with_slot}
-use Rattle.store.specs.Stores.{BacklogView, StoreView, store_view, backlog_view, backlog_at, no_backlog, with_backlog, with_payload, queued, numbered, joined, counted}
+use Rattle.store.specs.Stores.{BacklogView, StoreView, store_view, backlog_view, backlog_at, no_backlog, with_backlog, with_payload, queued, counted, joined, numbered}
 use Rattle.board.proofs.Limits.{Known, known, role, formed_at, not_back, not_back', and_parts, or_false, check_tests, changed_at}
 use Rattle.board.proofs.Roles.{unset_at}
 use Rattle.board.specs.Flights.{lane_at, vertex_in}
@@ -101,7 +101,7 @@ enqueued_is n c b s d bank kind row lt =
 -- ---- an open request
 
 abbrev held_store : ℕ → ℕ → Payload → StoreView → StoreView
-held_store d slot p s = with_backlog numbered d (with_payload slot p s)
+held_store d slot p s = with_backlog counted d (with_payload slot p s)
 
 stage_put : (b : BoardView) (s : StoreView) (d slot share bank : ℕ) (kind : Kind) (p : Payload) → slot < length b.slots → slot < length s.payloads → get_or b.shares (slot / 64) None ≡ Some share
     → ◌≡◌ {A = ℕ → Stage} (stage_at (with_slot slot (Held bank kind) b) (held_store d slot p s)) (put (stage_at b s) slot (flying bank kind p))
@@ -136,8 +136,8 @@ taken_is m n c c' b s d slot share bank kind p ld lt lp is took =
     ap (λ (x : List ℕ). running_of n x (with_slot slot (Held bank kind) b) (held_store d slot p s)) took
     ∙ ap (λ (f : ℕ → Stage). record { tick = n; controller = next; tables = record { stage = f; start = start_at (with_slot slot (Held bank kind) b); queue = queue_at (held_store d slot p s) }; serial = serial_at (held_store d slot p s) }) (stage_put b s d slot share bank kind p lt lp is)
     ∙ ap (λ (f : ℕ → ℕ). record { tick = n; controller = next; tables = record { stage = put (stage_at b s) slot (flying bank kind p); start = f; queue = queue_at (held_store d slot p s) }; serial = serial_at (held_store d slot p s) }) (start_same b slot (Held bank kind))
-    ∙ ap (λ (f : ℕ → List Waiting). record { tick = n; controller = next; tables = record { stage = put (stage_at b s) slot (flying bank kind p); start = start_at b; queue = f }; serial = serial_at (held_store d slot p s) }) (keep_backlog (λ x. x.queue) numbered (with_payload slot p s) d ld (λ x. refl))
-    ∙ ap (λ (f : ℕ → ℕ). record { tick = n; controller = next; tables = record { stage = put (stage_at b s) slot (flying bank kind p); start = start_at b; queue = λ j. (backlog_at s j).queue }; serial = f }) (put_backlog (λ x. x.serial) numbered (with_payload slot p s) d (suc (backlog_at s d).serial) ld (add-one (backlog_at s d).serial))
+    ∙ ap (λ (f : ℕ → List Waiting). record { tick = n; controller = next; tables = record { stage = put (stage_at b s) slot (flying bank kind p); start = start_at b; queue = f }; serial = serial_at (held_store d slot p s) }) (keep_backlog (λ x. x.queue) counted (with_payload slot p s) d ld (λ x. refl))
+    ∙ ap (λ (f : ℕ → ℕ). record { tick = n; controller = next; tables = record { stage = put (stage_at b s) slot (flying bank kind p); start = start_at b; queue = λ j. (backlog_at s j).queue }; serial = f }) (put_backlog (λ x. x.serial) counted (with_payload slot p s) d (suc (backlog_at s d).serial) ld (add-one (backlog_at s d).serial))
   where
     next : List ℕ
     next = after m (Call.take (record { slot = slot; domain = d; bank = bank; kind = kind })) c
@@ -297,11 +297,11 @@ module _ (b : BoardView) (s : StoreView) (used : ℕ) (ok : Sound b s used) wher
             (ap (λ u. cond (u && ltb (backlog_at s d).serial (10 ^ 18)) (queued bank kind row (backlog_at s d)) (backlog_at s d)) (queue_low e)
             ∙ ap (λ u. cond u (queued bank kind row (backlog_at s d)) (backlog_at s d)) serial_low))
 
-        counts_on : (v : StoreView) → v.backlogs ≡ s.backlogs → with_backlog counted d v ≡ with_backlog numbered d v
+        counts_on : (v : StoreView) → v.backlogs ≡ s.backlogs → with_backlog numbered d v ≡ with_backlog counted d v
         counts_on v same =
             ap (λ (l : List BacklogView). record { backlogs = l; payloads = v.payloads })
-            (changed_at counted numbered v.backlogs d no_backlog
-            (ap (λ u. cond u (numbered (get_or v.backlogs d no_backlog)) (get_or v.backlogs d no_backlog)) (ap (λ (l : List BacklogView). ltb (get_or l d no_backlog).serial (10 ^ 18)) same ∙ serial_low)))
+            (changed_at numbered counted v.backlogs d no_backlog
+            (ap (λ u. cond u (counted (get_or v.backlogs d no_backlog)) (get_or v.backlogs d no_backlog)) (ap (λ (l : List BacklogView). ltb (get_or l d no_backlog).serial (10 ^ 18)) same ∙ serial_low)))
 
         queued_running : (o : Option ℕ) (ls : List LaneView) → get_or b.lanes d [] ≡ ls → None ≡ turn_of d (backlog_at s d).serial o → is_unset (role_at o ls) ≡ false
             → running_of t c b (with_backlog (queued bank kind row) d s) ≡ submitted m (running_of t c b s) d bank kind row (role_at o ls)
@@ -320,7 +320,7 @@ module _ (b : BoardView) (s : StoreView) (used : ℕ) (ok : Sound b s used) wher
 
         sent : (o : Option ℕ) (slot : ℕ) (c' : List ℕ) → get_or b.shares d None ≡ o → Some slot ≡ turn_of d (backlog_at s d).serial o
             → c' ≡ after m (Call.take (record { slot = slot; domain = d; bank = bank; kind = kind })) c
-            → running_of t c' (with_slot slot (Held bank kind) b) (with_backlog numbered d (with_payload slot (Real row (backlog_at s d).serial) s)) ≡ submitted m (running_of t c b s) d bank kind row (role_at o (get_or b.lanes d []))
+            → running_of t c' (with_slot slot (Held bank kind) b) (with_backlog counted d (with_payload slot (Real row (backlog_at s d).serial) s)) ≡ submitted m (running_of t c b s) d bank kind row (role_at o (get_or b.lanes d []))
         unfolding submitted serial_at
         sent None slot c' f e took = let z : ◌≡◌ {A = ℕ} 0 1 = (cc) in absurd (omega arith)
         sent (Some n) slot c' f e took =
@@ -335,11 +335,11 @@ module _ (b : BoardView) (s : StoreView) (used : ℕ) (ok : Sound b s used) wher
 
         pub sent_after : (slot : ℕ) (c' : List ℕ) (b' : BoardView) (s' s'' : StoreView) (i : ℕ) → i ≡ (backlog_at s d).serial → Some slot ≡ turn_at b s d
             → b' ≡ with_slot slot (Held bank kind) b → c' ≡ after m (Call.take (record { slot = slot; domain = d; bank = bank; kind = kind })) c
-            → s' ≡ with_payload slot (Real row i) s → s'' ≡ with_backlog counted d s'
+            → s' ≡ with_payload slot (Real row i) s → s'' ≡ with_backlog numbered d s'
             → state_of g (settings_of b') (running_of t c' b' s'') ≡ (outcome m (state_of g (settings_of b) (running_of t c b s)) (calls.submit d bank kind row)).after
         sent_after slot c' b' s' s'' i at turn holds took carries counts =
-            let stored : s'' ≡ with_backlog numbered d (with_payload slot (Real row (backlog_at s d).serial) s) =
-            counts ∙ ap (with_backlog counted d) (carries ∙ ap (λ j. with_payload slot (Real row j) s) at) ∙ counts_on (with_payload slot (Real row (backlog_at s d).serial) s) refl in
+            let stored : s'' ≡ with_backlog counted d (with_payload slot (Real row (backlog_at s d).serial) s) =
+            counts ∙ ap (with_backlog numbered d) (carries ∙ ap (λ j. with_payload slot (Real row j) s) at) ∙ counts_on (with_payload slot (Real row (backlog_at s d).serial) s) refl in
             ap (λ h. state_of h (settings_of b') (running_of t c' b' s'')) begun
             ∙ ap (λ (y : BoardView). running (settings_of y) (running_of t c' y s'')) holds
             ∙ ap (λ (y : StoreView). running (settings_of b) (running_of t c' (with_slot slot (Held bank kind) b) y)) stored

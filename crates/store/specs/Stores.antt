@@ -30,12 +30,12 @@ abbrev pub joined : ℕ → Kind → ℕ → BacklogView → BacklogView
 joined b k row x = cond (nat_lt (length x.queue) 16 && nat_lt x.serial (10 ^ 18)) (queued b k row x) x
 
 -- one more request, which waits in no queue
-abbrev pub numbered : BacklogView → BacklogView
-numbered x = record { queue = x.queue; serial = x.serial + 1 }
+abbrev pub counted : BacklogView → BacklogView
+counted x = record { queue = x.queue; serial = x.serial + 1 }
 
 -- if there is a serial for it
-abbrev pub counted : BacklogView → BacklogView
-counted x = cond (nat_lt x.serial (10 ^ 18)) (numbered x) x
+abbrev pub numbered : BacklogView → BacklogView
+numbered x = cond (nat_lt x.serial (10 ^ 18)) (counted x) x
 
 -- the oldest request with this bank and kind leaves the queue
 abbrev pub unqueued : ℕ → Kind → BacklogView → BacklogView

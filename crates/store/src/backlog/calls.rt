@@ -1,7 +1,7 @@
 // How requests join and leave the queue of one domain.
-ghost use Rattle.std.specs.Prelude.{◌≡◌, [], length, IfOk};
+ghost use Rattle.std.specs.Prelude.{◌≡◌, ◌^◌, ◌<◌, [], length, IfOk};
 ghost use Rattle.model.specs.Ticks.{oldest, matches};
-ghost use Rattle.store.specs.Stores.{backlog_view, no_backlog, joined, counted, unqueued, place_of};
+ghost use Rattle.store.specs.Stores.{backlog_view, no_backlog, queued, joined, counted, numbered, unqueued, place_of};
 
 use crate::backlog::Backlog;
 use interface::Kind;
@@ -33,7 +33,8 @@ impl Backlog {
 
     // A request joins the queue, unless 16 wait or the serials are used up.
     pub fn join(&mut self, bank: u8, kind: Kind, row: u16)
-        ensures { backlog_view self.new ≡ joined bank kind row (backlog_view self.old) }
+        ensures after { backlog_view self.new ≡ joined bank kind row (backlog_view self.old) }
+        ensures with_room { length (backlog_view self.old).queue < 16 → (backlog_view self.old).serial < 10 ^ 18 → backlog_view self.new ≡ queued bank kind row (backlog_view self.old) }
     {
         let serial = self.serial;
         if self.queue.len() < 16 && serial < 1_000_000_000_000_000_000 {
@@ -49,7 +50,8 @@ impl Backlog {
 
     // A request gets its serial, and waits in no queue, unless the serials are used up.
     pub fn count(&mut self)
-        ensures { backlog_view self.new ≡ counted (backlog_view self.old) }
+        ensures after { backlog_view self.new ≡ numbered (backlog_view self.old) }
+        ensures with_serial { (backlog_view self.old).serial < 10 ^ 18 → backlog_view self.new ≡ counted (backlog_view self.old) }
     {
         if self.serial < 1_000_000_000_000_000_000 {
             self.serial += 1;
@@ -57,7 +59,7 @@ impl Backlog {
     }
 
     // The oldest request with this bank and kind leaves the queue; a fake where there is none.
-    pub(crate) fn leave(&mut self, bank: u8, kind: Kind) -> Payload
+    pub fn leave(&mut self, bank: u8, kind: Kind) -> Payload
         ensures value { result ≡ oldest bank kind (backlog_view self.old).queue }
         ensures after { backlog_view self.new ≡ unqueued bank kind (backlog_view self.old) }
     {

@@ -1,7 +1,7 @@
 // How requests are kept, by domain and by slot.
-ghost use Rattle.std.specs.Prelude.{◌≡◌, length, IfOk, slice_index_or};
+ghost use Rattle.std.specs.Prelude.{◌≡◌, ◌^◌, ◌<◌, length, IfOk, slice_index_or};
 ghost use Rattle.model.specs.declared.Payload.TheVariants.{Fake};
-ghost use Rattle.store.specs.Stores.{store_view, new_store, backlog_at, with_backlog, with_payload, joined, counted, unqueued};
+ghost use Rattle.store.specs.Stores.{store_view, new_store, backlog_at, with_backlog, with_payload, queued, joined, counted, numbered, unqueued};
 ghost use Rattle.model.specs.Ticks.{oldest};
 
 use crate::backlog::Backlog;
@@ -48,7 +48,8 @@ impl Store {
 
     // A request joins its domain's queue, unless 16 wait or the serials are used up.
     pub fn join(&mut self, domain: usize, bank: u8, kind: Kind, row: u16)
-        ensures { store_view self.new ≡ with_backlog (joined bank kind row) domain (store_view self.old) }
+        ensures after { store_view self.new ≡ with_backlog (joined bank kind row) domain (store_view self.old) }
+        ensures with_room { length (backlog_at (store_view self.old) domain).queue < 16 → (backlog_at (store_view self.old) domain).serial < 10 ^ 18 → store_view self.new ≡ with_backlog (queued bank kind row) domain (store_view self.old) }
     {
         if domain < self.backlogs.len() {
             let chosen = &mut self.backlogs[domain];
@@ -58,7 +59,8 @@ impl Store {
 
     // A request of the domain gets its serial, and waits in no queue, unless the serials are used up.
     pub fn count(&mut self, domain: usize)
-        ensures { store_view self.new ≡ with_backlog counted domain (store_view self.old) }
+        ensures after { store_view self.new ≡ with_backlog numbered domain (store_view self.old) }
+        ensures with_serial { (backlog_at (store_view self.old) domain).serial < 10 ^ 18 → store_view self.new ≡ with_backlog counted domain (store_view self.old) }
     {
         if domain < self.backlogs.len() {
             let chosen = &mut self.backlogs[domain];
@@ -67,7 +69,7 @@ impl Store {
     }
 
     // What a slot carries.
-    pub(crate) fn payload(&self, slot: usize) -> Payload
+    pub fn payload(&self, slot: usize) -> Payload
         ensures { result ≡ slice_index_or (store_view self.now).payloads slot Fake }
     {
         if slot < self.payloads.len() {
@@ -87,7 +89,7 @@ impl Store {
     }
 
     // The oldest request of a domain with this bank and kind leaves its queue; a fake where there is none.
-    pub(crate) fn leave(&mut self, domain: usize, bank: u8, kind: Kind) -> Payload
+    pub fn leave(&mut self, domain: usize, bank: u8, kind: Kind) -> Payload
         ensures value { result ≡ oldest bank kind (backlog_at (store_view self.old) domain).queue }
         ensures after { store_view self.new ≡ with_backlog (unqueued bank kind) domain (store_view self.old) }
     {

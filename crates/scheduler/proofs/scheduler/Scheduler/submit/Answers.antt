@@ -43,7 +43,7 @@ returns-in-Some-slot_in_turn g c =
       answer = serial_is b t s.board.used ok s.tick (m.state s.controller) c.args.domain c.args.bank c.args.kind c.args.row m.meaning s.begun c.if-not-self.false c.in_default.ensures i c.serial-serial.ensures;
       after = sent_after b t s.board.used ok s.tick (m.state s.controller) c.args.domain c.args.bank c.args.kind c.args.row m.meaning s.begun c.if-not-self.false c.in_default.ensures
           c.in-Some-slot_in_turn.slot (m.state c.send.new.controller) (board_view c.send.new.board) (store_view c.carry.new.self) (store_view c.count.new.self) i c.serial-serial.ensures turn
-          c.send.ensures.board c.send.ensures.controller c.carry.ensures c.count.ensures;
+          c.send.ensures.board c.send.ensures.controller c.carry.ensures c.count.ensures.after;
     }
 
 pub returns-in-None : goal.returns-in-None
@@ -58,5 +58,5 @@ returns-in-None g c =
     record {
       answer = serial_is b t s.board.used ok s.tick (m.state s.controller) c.args.domain c.args.bank c.args.kind c.args.row m.meaning s.begun c.if-not-self.false c.in_default.ensures i c.serial-serial.ensures;
       after = joined_after b t s.board.used ok s.tick (m.state s.controller) c.args.domain c.args.bank c.args.kind c.args.row m.meaning s.begun c.if-not-self.false c.in_default.ensures
-          (store_view c.join.new.self) turn c.join.ensures;
+          (store_view c.join.new.self) turn c.join.ensures.after;
     }
