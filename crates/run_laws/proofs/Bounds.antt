@@ -11,7 +11,7 @@ use Rattle.patterns.specs.declared.setting.VertexSetting.{VertexSetting}
 use Rattle.model.specs.Calls.{Setting, opens, lane, first, Call, sets, begins, submit, ticks, refused, good, Running, State, setting, running, new, next_tick, limit, settled, too_many, setting_refusal, started, serves, slot_in_turn, role_refusal, submit_refusal, enqueued, taken_open, submitted, tick_refusal, ticked, Outcome, unless, submit_outcome, tick_outcome, outcome}
 use Rattle.model.specs.Settings.{Role, unset, opened, protected, Settings, role_of, is_unset, is_opened, patterns_of, vertices}
 use Rattle.model.specs.Ticks.{put, is_still}
-use Rattle.run_laws.specs.Laws.{NeverRefused, SmallReply, SmallEntry, Limits}
+use Rattle.run_laws.specs.Laws.{NeverRefused, SmallReply, SmallEntry, LimitsOf}
 use Rattle.run_laws.specs.Runs.{trace, run, accepts}
 use Rattle.run_laws.proofs.Always.{Good, good_step, good_all, new_fits}
 use Rattle.run_laws.proofs.Counts.{few}
@@ -154,7 +154,7 @@ module _ (r : Controller) (laws : Lawful r.meaning) where
         (low_bank r laws c g.0.sound g.0.eight g.0.fit x d bank kind row e g.1 g.2) (free_slot r laws c g.0.sound g.0.eight g.0.fit x d bank kind row e g.1 g.2 share is);
   }
 
-pub limits : (m : Meaning (List ℕ)) → Lawful m → Limits m
+pub limits : (m : Meaning (List ℕ)) → Lawful m → LimitsOf m
 unfolding run
 limits m laws b cs =
     (small r laws cs (new m b) (new_fits r laws, refl) (omega arith), λ c x e. never r laws c x (subst (Good r laws) e (good_all r laws cs (new m b) (new_fits r laws, refl))))

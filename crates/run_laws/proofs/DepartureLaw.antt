@@ -16,7 +16,7 @@ use Rattle.model.specs.declared.Letter.TheVariants as letter
 use Rattle.model.specs.declared.Line.{Line}
 use Rattle.model.specs.declared.Payload.TheVariants.{Real}
 use Rattle.run_laws.specs.Departures.{is_T, is_D, line_ticks, takes_of, dones_of, Departs}
-use Rattle.run_laws.specs.Laws.{DepartureLaw}
+use Rattle.run_laws.specs.Laws.{DepartureLawOf}
 use Rattle.run_laws.specs.Runs.{Entry, trace, run, set_by, settings, made_from, tick_count, strike, bus_record}
 use Rattle.run_laws.proofs.Always.{Good, good_step, started_good, new_fits}
 use Rattle.run_laws.proofs.Deadlines.{done_all, fine_late}
@@ -254,7 +254,7 @@ module _ (r : Controller) (laws : Lawful r.meaning) where
   law_set (submit d b k row ∷ cs) c s g = law_set cs c s g
   law_set (ticks l n ∷ cs) c s g = law_set cs c s g
 
-pub departure_law : (m : Meaning (List ℕ)) → Lawful m → DepartureLaw m
+pub departure_law : (m : Meaning (List ℕ)) → Lawful m → DepartureLawOf m
 unfolding run
 departure_law m laws b cs ℓ i q hℓ h = law_set r laws cs _ (m.start b) (new_fits r laws, refl) ℓ i q hℓ h
   where

@@ -14,7 +14,7 @@ use Rattle.model.specs.Settings.{blank, Role, Settings, domain_of, is_open, is_o
 use Rattle.model.specs.Ticks.{Stage, Tables, completed, done, event_notice, flying, notice_of, notices, payload_notice, put, step_events, still}
 use Rattle.model.specs.declared.Notice.{Notice}
 use Rattle.model.specs.declared.Payload.TheVariants.{Fake, Real}
-use Rattle.run_laws.specs.Laws.{IsolationLaw}
+use Rattle.run_laws.specs.Laws.{IsolationLawOf}
 use Rattle.run_laws.specs.Runs.{Answer, answer_of, answers, answers_from, answers_in, not_from, notice, others, result, run, trace}
 use Rattle.run_laws.proofs.Masks.{masked, tables_path, masked_still, mask, mask_completed, mask_written, tick_mask, controller_mask}
 use Rattle.run_laws.proofs.Steps.{made_by, made_step, made_running, made_others}
@@ -214,7 +214,7 @@ module _ (p : ℕ) where
               ap (λ y. y ++ answers d (trace r (outcome r m c).after cs)) (answered_hidden m c z)
               ∙ ih (outcome r m c).after w (after_hidden m c cs z h ∙ e) later
 
-pub apart : (m : Meaning (List ℕ)) → Lawful m → IsolationLaw m
+pub apart : (m : Meaning (List ℕ)) → Lawful m → IsolationLawOf m
 unfolding run
 apart r lawful a b p cs ds same_start h e d ne =
     alike p d ne r cs (new r a) (new r a) refl h ∙ ap (λ z. answers d (trace r (new r a) z)) e ∙ sym (alike p d ne r ds (new r a) (new r a) refl g) ∙ ap (λ w. answers d (trace r w ds)) (ap (setting blank) same_start)

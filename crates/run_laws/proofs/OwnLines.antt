@@ -15,7 +15,7 @@ use Rattle.model.specs.declared.Letter.{Letter}
 use Rattle.model.specs.declared.Letter.TheVariants as letter
 use Rattle.model.specs.declared.Line.{Line}
 use Rattle.model.specs.declared.Payload.TheVariants.{Real}
-use Rattle.run_laws.specs.Laws.{OwnLine, LineLaw}
+use Rattle.run_laws.specs.Laws.{OwnLine, LineLawOf}
 use Rattle.run_laws.specs.Runs.{Entry, trace, run, set_by, settings, made_from, strike, bus_record}
 use Rattle.run_laws.proofs.Departures.{In, all_in, apart_vertices, in_here, leaving_leave, completed_at}
 use Rattle.run_laws.proofs.Holding.{finishes, in_slots, Apart}
@@ -169,6 +169,6 @@ module _ (m : Meaning (List ℕ)) where
   own_set (submit d b k row ∷ cs) c s h = own_set cs c s h
   own_set (ticks l n ∷ cs) c s h = own_set cs c s h
 
-pub lines_own : (m : Meaning (List ℕ)) → LineLaw m
+pub lines_own : (m : Meaning (List ℕ)) → LineLawOf m
 unfolding run
 lines_own m b cs = own_set m cs blank (m.start b) new_sound

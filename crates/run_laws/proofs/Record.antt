@@ -16,7 +16,7 @@ use Rattle.model.specs.declared.Letter.TheVariants as letter
 use Rattle.model.specs.declared.Letter.{Letter}
 use Rattle.model.specs.declared.Line.{Line}
 use Rattle.model.specs.declared.Payload.TheVariants.{Fake, Real}
-use Rattle.run_laws.specs.Laws.{RecordLaw}
+use Rattle.run_laws.specs.Laws.{RecordLawOf}
 use Rattle.run_laws.specs.Runs.{Entry, Taking, bus_record, made, made_from, one_more, run, settings, strike, taking_of, tick_count, trace}
 use Rattle.run_laws.proofs.Masks.{masked, map_put, tables_path, mask, mask_completed, mask_departed, mask_written, tick_mask, controller_mask, rounds_mask, departures_mask}
 use Rattle.run_laws.proofs.Rows.{Ev, took, passed, takes_in, passes, row_decided}
@@ -288,7 +288,7 @@ module _ (r : Meaning (List ℕ)) (s : List ℕ) where
   facts C (submit d b k row ∷ cs) c h e = quiet_entry C c.first (submit d b k row) (refused 1) (trace r (setting c s) cs) refl refl refl (facts C cs c h e)
   facts C (ticks l m ∷ cs) c h e = quiet_entry C c.first (ticks l m) (refused 1) (trace r (setting c s) cs) refl refl refl (facts C cs c h e)
 
-pub shows : (m : Meaning (List ℕ)) → Lawful m → RecordLaw m
+pub shows : (m : Meaning (List ℕ)) → Lawful m → RecordLawOf m
 unfolding run
 shows r lawful a b cs ds same_start same_settings same-ticks = (there, back)
   where

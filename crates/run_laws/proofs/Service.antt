@@ -13,7 +13,7 @@ use Rattle.model.specs.Calls.{next_tick, Call, Outcome, Running, State, begins, 
 use Rattle.model.specs.Settings.{Pattern, Role, Settings, Vertex, domain_of, is_opened, lane_vertices, pattern_at, patterns_of, protected, role_of, vertices, vertices_below, vertices_from}
 use Rattle.model.specs.Ticks.{Stage, done, flying, is_still, matches, same_kind, still}
 use Rattle.model.specs.declared.Waiting.{Waiting}
-use Rattle.run_laws.specs.Laws.{AnsweredInTime, ServiceLaw}
+use Rattle.run_laws.specs.Laws.{AnsweredInTime, ServiceLawOf}
 use Rattle.run_laws.specs.Runs.{domain_round, Entry, accepts, answer_ticks, lasts, notices_in, older_waiting, run, state_after, trace, wait_limit}
 use Rattle.run_laws.proofs.Always.{Good, new_fits, good_step, good_all, within_ticked, serial_of, clock, grows, stays_set}
 use Rattle.run_laws.proofs.Deadlines.{Fine}
@@ -266,7 +266,7 @@ module _ (r : Controller) (laws : Lawful r.meaning) (c : Settings) (x : Running)
       go (inl o) = record { at_most_once = rw (all ∙ o.0) (omega arith); if_it_lasts = λ e. absurd (true≢false (sym e ∙ last ∙ o.1)) }
       go (inr o) = record { at_most_once = rw (all ∙ o.3) (omega arith); if_it_lasts = λ e. (o.0, o.1, o.2, all ∙ o.3) }
 
-pub in_time : (m : Meaning (List ℕ)) → Lawful m → ServiceLaw m
+pub in_time : (m : Meaning (List ℕ)) → Lawful m → ServiceLawOf m
 unfolding run outcome
 in_time m laws b before c x d bank kind row s rest patterns e1 is e2 =
     subst (AnsweredInTime d s x.tick (wait_limit (m.span b) c x d bank kind)) (sym (trace_append m before (submit d bank kind row ∷ rest) (new m b) ∙ ap (λ w. trace m (new m b) before ++ trace m w (submit d bank kind row ∷ rest)) e1))

@@ -2,6 +2,7 @@
 use Rattle.std.specs.Prelude.{◌≡◌, ℕ, ◌+◌, ◌<◌, ◌≤◌, true, false, ◌↔◌, List, [], ◌∷◌, ◌++◌, length, None, ◌≢◌}
 use Rattle.std.specs.List.{AllByRecursion}
 use Rattle.interface.specs.Emptied.{emptied}
+use Rattle.interface.specs.Lawful.{Lawful}
 use Rattle.interface.specs.Meaning as controller
 use Rattle.interface.specs.Meaning.{Meaning, after, take_refusal, step_refusal}
 use Rattle.interface.specs.declared.Kind.{Kind}
@@ -14,8 +15,8 @@ use Rattle.run_laws.specs.Runs.{Entry, run, state_after, settings, made, tick_co
 
 -- The record law. With equal settings, controllers and tick counts, the bus records are equal exactly when the open domains
 -- had the same requests taken in the same order at the same ticks.
-abbrev pub RecordLaw : Meaning (List ℕ) → Type 0
-RecordLaw m = (a b : List ℕ) (cs ds : List Call)
+abbrev pub RecordLawOf : Meaning (List ℕ) → Type 0
+RecordLawOf m = (a b : List ℕ) (cs ds : List Call)
     → m.start a ≡ m.start b
     → settings (run m a cs) ≡ settings (run m b ds)
     → tick_count (run m a cs) ≡ tick_count (run m b ds)
@@ -23,8 +24,8 @@ RecordLaw m = (a b : List ℕ) (cs ds : List Call)
 
 -- The isolation law. If the calls of two runs differ only in the submits of one domain that is not open, every other domain
 -- gets the same answers, in the same order, at the same ticks.
-abbrev pub IsolationLaw : Meaning (List ℕ) → Type 0
-IsolationLaw m = (a b : List ℕ) (p : ℕ) (cs ds : List Call)
+abbrev pub IsolationLawOf : Meaning (List ℕ) → Type 0
+IsolationLawOf m = (a b : List ℕ) (p : ℕ) (cs ds : List Call)
     → m.start a ≡ m.start b
     → is_open (made (settings (run m a cs))) p ≡ false
     → others p cs ≡ others p ds
@@ -38,8 +39,8 @@ pub record AnsweredInTime (d s n w : ℕ) (es : List Entry) : Type 0 where
 
 -- The service law. Each protected request that is taken is answered at most once, and exactly once within
 -- 2 × (k + 1) × R + S ticks if the run lasts.
-abbrev pub ServiceLaw : Meaning (List ℕ) → Type 0
-ServiceLaw m = (b : List ℕ) (before : List Call) (c : Settings) (x : Running) (d bank : ℕ) (kind : Kind) (row s : ℕ) (rest : List Call) (ps : List Pattern)
+abbrev pub ServiceLawOf : Meaning (List ℕ) → Type 0
+ServiceLawOf m = (b : List ℕ) (before : List Call) (c : Settings) (x : Running) (d bank : ℕ) (kind : Kind) (row s : ℕ) (rest : List Call) (ps : List Pattern)
     → state_after m (new m b) before ≡ running c x
     → role_of c d ≡ protected ps
     → (outcome m (running c x) (submit d bank kind row)).reply ≡ serial s
@@ -47,8 +48,8 @@ ServiceLaw m = (b : List ℕ) (before : List Call) (c : Settings) (x : Running) 
 
 -- The departure law. In every run every vertex leaves, in every round, at the tick that its edges give in that round, as the
 -- T and D lines of the bus record show it.
-abbrev pub DepartureLaw : Meaning (List ℕ) → Type 0
-DepartureLaw m = (b : List ℕ) (cs : List Call) (ℓ i r : ℕ)
+abbrev pub DepartureLawOf : Meaning (List ℕ) → Type 0
+DepartureLawOf m = (b : List ℕ) (cs : List Call) (ℓ i r : ℕ)
     → ℓ < 64
     → i < length (pattern_at (made (settings (run m b cs))) ℓ).spots
     → Departs (made (settings (run m b cs))).first ((made (settings (run m b cs))).first + tick_count (run m b cs)) (m.span b)
@@ -59,8 +60,8 @@ abbrev pub OwnLine : Vertex → Line → Type 0
 OwnLine v l = l.slot ≡ v.slot → (l.domain ≡ domain_of v.slot) × (l.bank ≡ v.bank) × (l.kind ≡ v.kind)
 
 -- The line law. In every run all lines of a vertex's slot, T, I and D, carry the vertex's domain, bank and kind.
-abbrev pub LineLaw : Meaning (List ℕ) → Type 0
-LineLaw m = (b : List ℕ) (cs : List Call)
+abbrev pub LineLawOf : Meaning (List ℕ) → Type 0
+LineLawOf m = (b : List ℕ) (cs : List Call)
     → AllByRecursion (λ v. AllByRecursion (OwnLine v) (bus_record (run m b cs))) (vertices (made (settings (run m b cs))))
 
 -- ---- what the laws rest on
@@ -91,8 +92,8 @@ pub record SmallEntry (e : Entry) : Type 0 where
   pub reply : SmallReply e.reply
 
 -- The limits. In every run the controller refuses nothing, and no number grows beyond its limit.
-abbrev pub Limits : Meaning (List ℕ) → Type 0
-Limits m = (b : List ℕ) (cs : List Call)
+abbrev pub LimitsOf : Meaning (List ℕ) → Type 0
+LimitsOf m = (b : List ℕ) (cs : List Call)
     → AllByRecursion SmallEntry (run m b cs)
     × ((c : Settings) (x : Running) → state_after m (new m b) cs ≡ running c x → NeverRefused m c x)
 
@@ -101,14 +102,35 @@ Limits m = (b : List ℕ) (cs : List Call)
 -- All that is promised of runs over controllers of one kind.
 pub record Promises (m : Meaning (List ℕ)) : Type 0 where
   -- The bus record shows the open takings, and nothing more.
-  pub record_law : RecordLaw m
+  pub record_law : RecordLawOf m
   -- What one protected domain submits, no other domain sees.
-  pub isolation_law : IsolationLaw m
+  pub isolation_law : IsolationLawOf m
   -- Each protected request that is taken is answered at most once, and in time if the run lasts.
-  pub service_law : ServiceLaw m
+  pub service_law : ServiceLawOf m
   -- Every vertex leaves, in every round, at the tick that its edges give.
-  pub departure_law : DepartureLaw m
+  pub departure_law : DepartureLawOf m
   -- All lines of a vertex's slot carry the vertex's domain, bank and kind.
-  pub line_law : LineLaw m
+  pub line_law : LineLawOf m
   -- The controller refuses nothing, a tick writes at most 96 lines and 32 notices, and no number passes 10^18.
-  pub limits : Limits m
+  pub limits : LimitsOf m
+
+-- ---- the laws over every controller that keeps the interface's laws
+
+abbrev pub RecordLaw : Type 0
+RecordLaw = (m : Meaning (List ℕ)) → Lawful m → RecordLawOf m
+
+abbrev pub IsolationLaw : Type 0
+IsolationLaw = (m : Meaning (List ℕ)) → Lawful m → IsolationLawOf m
+
+abbrev pub ServiceLaw : Type 0
+ServiceLaw = (m : Meaning (List ℕ)) → Lawful m → ServiceLawOf m
+
+abbrev pub DepartureLaw : Type 0
+DepartureLaw = (m : Meaning (List ℕ)) → Lawful m → DepartureLawOf m
+
+-- It rests on no law of the interface.
+abbrev pub LineLaw : Type 0
+LineLaw = (m : Meaning (List ℕ)) → LineLawOf m
+
+abbrev pub Limits : Type 0
+Limits = (m : Meaning (List ℕ)) → Lawful m → LimitsOf m

@@ -1,3 +1,4 @@
 pub mod Runs
 pub mod Departures
 pub mod Laws
+pub mod Cases
