@@ -21,7 +21,7 @@ pub mod Bounds
 pub mod Rounds
 pub mod LaneRounds
 pub mod SlotLines
-pub mod DepartureLawOf
+pub mod DepartureLaw
 pub mod OwnLines
 pub mod Promises
 pub mod Cases
