@@ -9,8 +9,8 @@ returns-then-domain-len c =
     let v = c.args.self.now.backlogs in
     let s = store_view c.args.self.now in
     let after =
-      ap (λ (l : List BacklogView). record { backlogs = l; payloads = c.args.self.now.payloads.items })
-      (viewed backlog_view numbered v.items c.args.domain _ c.count.new.self (omega (arith, v.ok.0, c.len.ensures, c.if-domain-len.true)) c.index_mut-chosen.ensures.value c.count.ensures.after) in
+    ap (λ (l : List BacklogView). record { backlogs = l; payloads = c.args.self.now.payloads.items })
+    (viewed backlog_view numbered v.items c.args.domain _ c.count.new.self (omega (arith, v.ok.0, c.len.ensures, c.if-domain-len.true)) c.index_mut-chosen.ensures.value c.count.ensures.after) in
     record { after = after; with_serial = λ serial. after ∙ same_change numbered counted c.args.domain s (numbered_with_serial (backlog_at s c.args.domain) serial) }
 
 pub returns-else-domain-len : goal.returns-else-domain-len
