@@ -60,11 +60,11 @@ kept_apart (x ∷ is) i q t k = kept_apart is i q t k.1
 
 -- ---- agreement with the history
 
-getD_sooner : (bs : List ℕ) (i : ℕ) → slice_index (map (λ n. n - 1) bs) i ≡ slice_index bs i - 1
-getD_sooner [] zero = refl
-getD_sooner [] (suc i) = refl
-getD_sooner (b ∷ bs) zero = refl
-getD_sooner (b ∷ bs) (suc i) = getD_sooner bs i
+get_or_sooner : (bs : List ℕ) (i : ℕ) → slice_index (map (λ n. n - 1) bs) i ≡ slice_index bs i - 1
+get_or_sooner [] zero = refl
+get_or_sooner [] (suc i) = refl
+get_or_sooner (b ∷ bs) zero = refl
+get_or_sooner (b ∷ bs) (suc i) = get_or_sooner bs i
 
 -- after n steps and the issues is
 pub record Agrees (g : Gaps) (n : ℕ) (is : List Issuance) : Type 0 where
@@ -77,7 +77,7 @@ no_bank : (b : ℕ) → slice_index no_gaps.banks b ≡ 0
 no_bank b = zeros no_gaps.banks b refl
   where
     zeros : (bs : List ℕ) (i : ℕ) → map (λ n. n - 1) bs ≡ bs → slice_index bs i ≡ 0
-    zeros bs i e = let h = sym (getD_sooner bs i) ∙ ap (λ l. slice_index l i) e in omega arith
+    zeros bs i e = let h = sym (get_or_sooner bs i) ∙ ap (λ l. slice_index l i) e in omega arith
 
 pub agrees_start : Agrees no_gaps 0 []
 agrees_start = record { reads = refl; writes = refl; banks = λ b l. let z = no_bank b in omega arith; eight = refl }
@@ -91,7 +91,7 @@ module _ (g : Gaps) (n : ℕ) (is : List Issuance) (a : Agrees g n is) where
       record {
         reads = omega arith;
         writes = omega arith;
-        banks = λ b l. let k = a.banks b l in let s = getD_sooner g.banks b in omega arith;
+        banks = λ b l. let k = a.banks b l in let s = get_or_sooner g.banks b in omega arith;
         eight = length-map g.banks (λ k. k - 1) ∙ a.eight;
       }
 
@@ -100,7 +100,7 @@ module _ (g : Gaps) (n : ℕ) (is : List Issuance) (a : Agrees g n is) where
   wait_is Write = a.writes
 
   bank_is : (b : ℕ) → b < 8 → bank_wait (gaps_passed g) b ≡ free_bank b is - n
-  bank_is b l = let m : b % 8 ≡ b = omega arith in ap (λ i. slice_index (gaps_passed g).banks i) m ∙ getD_sooner g.banks b ∙ a.banks b l
+  bank_is b l = let m : b % 8 ≡ b = omega arith in ap (λ i. slice_index (gaps_passed g).banks i) m ∙ get_or_sooner g.banks b ∙ a.banks b l
 
   -- in the next step, a request is allowed exactly when it keeps its gap to every earlier issue
   pub allowed_kept : (q : Request) → q.bank < 8 → allows (gaps_passed g) q ≡ true → Kept is q n
@@ -152,7 +152,7 @@ module _ (g : Gaps) (n : ℕ) (is : List Issuance) (a : Agrees g n is) where
             ap (λ j. slice_index (slice_set (gaps_passed g).banks j (max (bank_wait (gaps_passed g) q.bank) (bank_gap q.kind))) b - 1) m
             ∙ ap (λ k. slice_index (slice_set (gaps_passed g).banks q.bank k) b - 1) v
             ∙ bank_set (gaps_passed g).banks b q.bank (bank_gap q.kind) (free_bank b is) (q.bank == b) refl (length-map g.banks (λ j. j - 1) ∙ a.eight) l
-            (getD_sooner g.banks b ∙ a.banks b l) (λ y. subst (λ j. free_bank j is ≤ n) (eqb-true _ _ y) z)
+            (get_or_sooner g.banks b ∙ a.banks b l) (λ y. subst (λ j. free_bank j is ≤ n) (eqb-true _ _ y) z)
             ∙ ap (λ j. j - (n + 1)) (sym (bank_append b is i));
         eight = length-set (gaps_passed g).banks (q.bank % 8) (max (bank_wait (gaps_passed g) q.bank) (bank_gap q.kind)) ∙ length-map g.banks (λ j. j - 1) ∙ a.eight;
       }
@@ -173,7 +173,7 @@ within_more v w g le h = record { reads = omega (arith, h.reads); writes = omega
 
 pub within_pass : (w v : ℕ) (g : Gaps) → w ≡ suc v → Within w g → Within v (gaps_passed g)
 within_pass w v g e h =
-    record { reads = omega (arith, h.reads); writes = omega (arith, h.writes); banks = λ i. let k = h.banks i in let s = getD_sooner g.banks i in omega arith }
+    record { reads = omega (arith, h.reads); writes = omega (arith, h.writes); banks = λ i. let k = h.banks i in let s = get_or_sooner g.banks i in omega arith }
 
 gap_most : (a b : Kind) → gap a b ≤ greatest_gap
 gap_most Read Read = lit≤ tt
@@ -185,15 +185,15 @@ bank_gap_most : (a : Kind) → bank_gap a ≤ greatest_gap
 bank_gap_most Read = lit≤ tt
 bank_gap_most Write = lit≤ tt
 
-getD_set_most : (m : ℕ) (bs : List ℕ) (i j v : ℕ) → slice_index bs i ≤ m → v ≤ m → slice_index (slice_set bs j v) i ≤ m
-getD_set_most m [] zero zero v a b = a
-getD_set_most m [] zero (suc j) v a b = a
-getD_set_most m [] (suc i) zero v a b = a
-getD_set_most m [] (suc i) (suc j) v a b = a
-getD_set_most m (x ∷ bs) zero zero v a b = b
-getD_set_most m (x ∷ bs) zero (suc j) v a b = a
-getD_set_most m (x ∷ bs) (suc i) zero v a b = a
-getD_set_most m (x ∷ bs) (suc i) (suc j) v a b = getD_set_most m bs i j v a b
+get_or_set_most : (m : ℕ) (bs : List ℕ) (i j v : ℕ) → slice_index bs i ≤ m → v ≤ m → slice_index (slice_set bs j v) i ≤ m
+get_or_set_most m [] zero zero v a b = a
+get_or_set_most m [] zero (suc j) v a b = a
+get_or_set_most m [] (suc i) zero v a b = a
+get_or_set_most m [] (suc i) (suc j) v a b = a
+get_or_set_most m (x ∷ bs) zero zero v a b = b
+get_or_set_most m (x ∷ bs) zero (suc j) v a b = a
+get_or_set_most m (x ∷ bs) (suc i) zero v a b = a
+get_or_set_most m (x ∷ bs) (suc i) (suc j) v a b = get_or_set_most m bs i j v a b
 
 pub within_issue : (q : Request) (g : Gaps) → Within greatest_gap g → Within greatest_gap (with_issue q g)
 within_issue q g h =
@@ -203,7 +203,7 @@ within_issue q g h =
     record {
       reads = omega (arith, h.reads);
       writes = omega (arith, h.writes);
-      banks = λ i. getD_set_most greatest_gap g.banks i (q.bank % 8) (max (bank_wait g q.bank) (bank_gap q.kind)) (h.banks i) (omega (arith, h.banks (q.bank % 8)));
+      banks = λ i. get_or_set_most greatest_gap g.banks i (q.bank % 8) (max (bank_wait g q.bank) (bank_gap q.kind)) (h.banks i) (omega (arith, h.banks (q.bank % 8)));
     }
 
 wait_within : (w : ℕ) (g : Gaps) → Within w g → (k : Kind) → wait_of g k ≤ w

@@ -20,11 +20,11 @@ pub placed : {X : Type 0} (f : X → X) (xs : List X) (i : ℕ) (x w : X) → x 
 placed f xs i x w read e = ap (set xs i) (e ∙ ap f read) ∙ set_changed f xs i x
 
 module _ {X Y : Type 0} (view : X → Y) (f : Y → Y) (xs : List X) (i : ℕ) where
-  pub getD_viewed : (d : Y) (x : X) → i < length xs → x ≡ get_or xs i x → view x ≡ get_or (map view xs) i d
-  getD_viewed d x lt read = ap view read ∙ sym (get_or-map view xs i x d lt)
+  pub get_or_viewed : (d : Y) (x : X) → i < length xs → x ≡ get_or xs i x → view x ≡ get_or (map view xs) i d
+  get_or_viewed d x lt read = ap view read ∙ sym (get_or-map view xs i x d lt)
 
   pub viewed : (x w : X) → i < length xs → x ≡ get_or xs i x → view w ≡ f (view x) → map view (set xs i w) ≡ changed f (map view xs) i
-  viewed x w lt read e = map-set view xs i w ∙ placed f (map view xs) i (view x) (view w) (getD_viewed (view x) x lt read) e
+  viewed x w lt read e = map-set view xs i w ∙ placed f (map view xs) i (view x) (view w) (get_or_viewed (view x) x lt read) e
 
   pub view_past : length xs ≤ i → map view xs ≡ changed f (map view xs) i
   view_past le = changed_past f (map view xs) i (omega (arith, length-map xs view))
@@ -32,13 +32,13 @@ module _ {X Y : Type 0} (view : X → Y) (f : Y → Y) (xs : List X) (i : ℕ) w
   pub nth_viewed : (x : X) → i < length xs → x ≡ get_or xs i x → Some (view x) ≡ slice_get (map view xs) i
   nth_viewed x lt read =
       let lt_map : i < length (map view xs) = omega (arith, length-map xs view) in
-      sym (slice_get_read (map view xs) (length (map view xs)) i (view x) refl lt_map (getD_viewed (view x) x lt read))
+      sym (slice_get_read (map view xs) (length (map view xs)) i (view x) refl lt_map (get_or_viewed (view x) x lt read))
 
   pub nth_view_past : length xs ≤ i → None ≡ slice_get (map view xs) i
   nth_view_past le = sym (slice_get_past (map view xs) i (omega (arith, length-map xs view)))
 
-  pub getD_view_past : (d : Y) → length xs ≤ i → d ≡ get_or (map view xs) i d
-  getD_view_past d le = sym (get_or_past (map view xs) i d (omega (arith, length-map xs view)))
+  pub get_or_view_past : (d : Y) → length xs ≤ i → d ≡ get_or (map view xs) i d
+  get_or_view_past d le = sym (get_or_past (map view xs) i d (omega (arith, length-map xs view)))
 
 -- a loop that changes one element after the other
 walk : {X : Type 0} (f : X → X) (xs : List X) (i : ℕ) → i < length xs → changed f (map f (take i xs) ++ drop i xs) i ≡ map f (take (suc i) xs) ++ drop (suc i) xs

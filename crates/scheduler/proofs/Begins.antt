@@ -45,11 +45,11 @@ not_false : (t : Bool) → not t ≡ false → t ≡ true
 not_false true e = refl
 not_false false e = let z : ◌≡◌ {A = ℕ} 0 1 = (cc) in absurd (omega arith)
 
-any_getD : {X : Type 0} (p : X → Bool) (xs : List X) (i : ℕ) (d : X) → any p xs ≡ false → p d ≡ false → p (get_or xs i d) ≡ false
-any_getD p [] zero d e f = f
-any_getD p [] (suc i) d e f = f
-any_getD p (x ∷ xs) zero d e f = (or_parts (p x) (any p xs) e).0
-any_getD p (x ∷ xs) (suc i) d e f = any_getD p xs i d (or_parts (p x) (any p xs) e).1 f
+any_get_or : {X : Type 0} (p : X → Bool) (xs : List X) (i : ℕ) (d : X) → any p xs ≡ false → p d ≡ false → p (get_or xs i d) ≡ false
+any_get_or p [] zero d e f = f
+any_get_or p [] (suc i) d e f = f
+any_get_or p (x ∷ xs) zero d e f = (or_parts (p x) (any p xs) e).0
+any_get_or p (x ∷ xs) (suc i) d e f = any_get_or p xs i d (or_parts (p x) (any p xs) e).1 f
 
 -- what a test says of the element at a place, if there is one
 abbrev test_of : {X : Type 0} → (X → Bool) → Option X → Bool
@@ -102,22 +102,22 @@ started_all : (f : ℕ) (ts : List (List LaneView)) → lanes_moved (map (map (s
 started_all f [] = refl
 started_all f (t ∷ ts) = ap (λ x. x || lanes_moved (map (map (started f)) ts)) (started_moved f t) ∙ ap (λ x. any lane_moved t || x) (started_all f ts)
 
-getD_none : {X : Type 0} (i : ℕ) (d : X) → get_or [] i d ≡ d
-getD_none zero d = refl
-getD_none (suc i) d = refl
+get_or_none : {X : Type 0} (i : ℕ) (d : X) → get_or [] i d ≡ d
+get_or_none zero d = refl
+get_or_none (suc i) d = refl
 
 nth_map : (g : LaneView → LaneView) (ls : List LaneView) (i : ℕ) → slice_get (map g ls) i ≡ option_map g (slice_get ls i)
 nth_map g [] i = refl
 nth_map g (l ∷ ls) zero = refl
 nth_map g (l ∷ ls) (suc i) = nth_map g ls i
 
-getD_maps : (g : LaneView → LaneView) (ts : List (List LaneView)) (d : ℕ) → get_or (map (map g) ts) d [] ≡ map g (get_or ts d [])
-getD_maps g [] d = getD_none d [] ∙ ap (map g) (sym (getD_none d []))
-getD_maps g (t ∷ ts) zero = refl
-getD_maps g (t ∷ ts) (suc d) = getD_maps g ts d
+get_or_maps : (g : LaneView → LaneView) (ts : List (List LaneView)) (d : ℕ) → get_or (map (map g) ts) d [] ≡ map g (get_or ts d [])
+get_or_maps g [] d = get_or_none d [] ∙ ap (map g) (sym (get_or_none d []))
+get_or_maps g (t ∷ ts) zero = refl
+get_or_maps g (t ∷ ts) (suc d) = get_or_maps g ts d
 
 pub lane_at_map : (g : LaneView → LaneView) (ts : List (List LaneView)) (ℓ : ℕ) → lane_at (map (map g) ts) ℓ ≡ option_map g (lane_at ts ℓ)
-lane_at_map g ts ℓ = ap (λ (ls : List LaneView). slice_get ls (ℓ % 8)) (getD_maps g ts (ℓ / 8)) ∙ nth_map g (get_or ts (ℓ / 8) []) (ℓ % 8)
+lane_at_map g ts ℓ = ap (λ (ls : List LaneView). slice_get ls (ℓ % 8)) (get_or_maps g ts (ℓ / 8)) ∙ nth_map g (get_or ts (ℓ / 8) []) (ℓ % 8)
 
 start_is : (f : ℕ) (s : Option ℕ) (l : Option LaneView) → start_of f s (option_map (started f) l) ≡ f
 start_is f (Some n) l = refl
@@ -142,12 +142,12 @@ module _ (b : BoardView) (s : StoreView) (ok : untouched b s ≡ true) where
   all_still = fun_ext (λ t. go t (get_or b.shares (t / 64) None) (get_or s.payloads t Fake))
     where
       go : (t : ℕ) (share : Option ℕ) (p : Payload) → slot_stage share (get_or b.slots t Free) (vertex_in (lane_at (map (map (started b.first)) b.lanes) (t / 8)) (t % 8)) p ≡ still
-      go t (Some n) p = free_stage (get_or b.slots t Free) p (any_getD (λ o. not (is_free o)) b.slots t Free (no_slot_held b s ok) refl)
+      go t (Some n) p = free_stage (get_or b.slots t Free) p (any_get_or (λ o. not (is_free o)) b.slots t Free (no_slot_held b s ok) refl)
       go t None p =
           still_stage (vertex_in (lane_at (map (map (started b.first)) b.lanes) (t / 8)) (t % 8)) p
           (vertex_in_moved (lane_at (map (map (started b.first)) b.lanes) (t / 8)) (t % 8)
           (any_nth lane_moved (get_or (map (map (started b.first)) b.lanes) (t / 8 / 8) []) (t / 8 % 8)
-          (any_getD (λ ls. any lane_moved ls) (map (map (started b.first)) b.lanes) (t / 8 / 8) [] (started_all b.first b.lanes ∙ no_lane_moved b s ok) refl)))
+          (any_get_or (λ ls. any lane_moved ls) (map (map (started b.first)) b.lanes) (t / 8 / 8) [] (started_all b.first b.lanes ∙ no_lane_moved b s ok) refl)))
 
   all_started : ◌≡◌ {A = ℕ → ℕ} (start_at (started_board b)) (λ ℓ. b.first)
   unfolding start_at
@@ -155,11 +155,11 @@ module _ (b : BoardView) (s : StoreView) (ok : untouched b s ≡ true) where
 
   no_queue : ◌≡◌ {A = ℕ → List Waiting} (queue_at s) (λ d. [])
   unfolding queue_at
-  no_queue = fun_ext (λ d. ap (λ (x : BacklogView). x.queue) (unused (get_or s.backlogs d no_backlog) (any_getD backlog_used s.backlogs d no_backlog (no_request b s ok) refl)))
+  no_queue = fun_ext (λ d. ap (λ (x : BacklogView). x.queue) (unused (get_or s.backlogs d no_backlog) (any_get_or backlog_used s.backlogs d no_backlog (no_request b s ok) refl)))
 
   no_serial : ◌≡◌ {A = ℕ → ℕ} (serial_at s) (λ d. 0)
   unfolding serial_at
-  no_serial = fun_ext (λ d. ap (λ (x : BacklogView). x.serial) (unused (get_or s.backlogs d no_backlog) (any_getD backlog_used s.backlogs d no_backlog (no_request b s ok) refl)))
+  no_serial = fun_ext (λ d. ap (λ (x : BacklogView). x.serial) (unused (get_or s.backlogs d no_backlog) (any_get_or backlog_used s.backlogs d no_backlog (no_request b s ok) refl)))
 
   same_settings : settings_of (started_board b) ≡ settings_of b
   same_settings = ap (λ (rs : List Role). record { first = b.first; roles = rs }) (roles_map (started b.first) (λ l. refl) b.shares b.lanes)

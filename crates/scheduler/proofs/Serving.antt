@@ -79,14 +79,14 @@ spots_any b k [] = refl
 spots_any b k (v ∷ vs) = ap (λ t. vertex_serves b k v || t) (spots_any b k vs)
 
 -- the lane at a place serves, or there is none
-getD_serves : (b : ℕ) (k : Kind) (ls : List LaneView) (i : ℕ) → any (lane_serves b k) ls ≡ false → any (spot_serves b k) (get_or (map pattern_of ls) i (record { spots = []; edges = []; rest = 0 })).spots ≡ false
-getD_serves b k [] i e = ap (λ (p : Pattern). any (spot_serves b k) p.spots) (get_or_past [] i (record { spots = []; edges = []; rest = 0 }) (omega arith))
-getD_serves b k (l ∷ ls) zero e = spots_any b k l.vertices ∙ left (lane_serves b k l) (any (lane_serves b k) ls) e
+get_or_serves : (b : ℕ) (k : Kind) (ls : List LaneView) (i : ℕ) → any (lane_serves b k) ls ≡ false → any (spot_serves b k) (get_or (map pattern_of ls) i (record { spots = []; edges = []; rest = 0 })).spots ≡ false
+get_or_serves b k [] i e = ap (λ (p : Pattern). any (spot_serves b k) p.spots) (get_or_past [] i (record { spots = []; edges = []; rest = 0 }) (omega arith))
+get_or_serves b k (l ∷ ls) zero e = spots_any b k l.vertices ∙ left (lane_serves b k l) (any (lane_serves b k) ls) e
   where
     left : (s t : Bool) → (s || t) ≡ false → s ≡ false
     left true t e = e
     left false t e = refl
-getD_serves b k (l ∷ ls) (suc i) e = getD_serves b k ls i (right (lane_serves b k l) (any (lane_serves b k) ls) e)
+get_or_serves b k (l ∷ ls) (suc i) e = get_or_serves b k ls i (right (lane_serves b k l) (any (lane_serves b k) ls) e)
   where
     right : (s t : Bool) → (s || t) ≡ false → t ≡ false
     right true t e = let z : ◌≡◌ {A = ℕ} 0 1 = (cc) in absurd (omega arith)
@@ -119,7 +119,7 @@ serves_is c d b k ls low many few is = go (any (lane_serves b k) ls) refl
         ∙ ap (λ (ps : List Pattern). any (spot_serves b k) (get_or ps (ℓ % 8) (record { spots = []; edges = []; rest = 0 })).spots) is
 
     none : any (lane_serves b k) ls ≡ false → (ℓ : ℕ) (t : Bool) → eqb (ℓ / 8) d ≡ t → (t && any (spot_serves b k) (pattern_at c ℓ).spots) ≡ false
-    none e ℓ true q = term ℓ (eqb-true (ℓ / 8) d q) ∙ getD_serves b k ls (ℓ % 8) e
+    none e ℓ true q = term ℓ (eqb-true (ℓ / 8) d q) ∙ get_or_serves b k ls (ℓ % 8) e
     none e ℓ false q = refl
 
     go : (t : Bool) → any (lane_serves b k) ls ≡ t → serves d b k (vertices_below c 64) ≡ t

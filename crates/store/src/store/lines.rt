@@ -1,4 +1,4 @@
-// The lines and notices of requests. Outside of this crate nobody sees what a slot carries but in a line or a notice.
+// The lines and notices of requests, and the requests that leave for them.
 ghost use Rattle.std.specs.Prelude.{◌≡◌};
 ghost use Rattle.model.specs.Ticks.{row_of, payload_notice};
 ghost use Rattle.model.specs.declared.Letter.TheVariants.{T as taken_letter};

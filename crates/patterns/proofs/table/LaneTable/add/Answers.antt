@@ -2,7 +2,7 @@ use Rattle.std.proofs.Common.{◌<◌, ◌≤◌, [], length, arith}
 use lib.ListN.{length-map}
 use Rattle.patterns.specs.Shape.{refused}
 use Rattle.patterns.specs.Tables.{lanes_view, table_view, with_lane}
-use Rattle.patterns.proofs.Places.{viewed, view_past, getD_viewed}
+use Rattle.patterns.proofs.Places.{viewed, view_past, get_or_viewed}
 use Rattle.patterns.proofs.Checks.{no_domain, in_domain}
 use Rattle.patterns.proofs.table.LaneTable.add.Goals as goal
 
@@ -22,6 +22,6 @@ returns c =
     record {
       answer =
           in_domain (table_view c.args.self.now) c.args.domain c.args.free c.args.vertices.now c.args.edges.now c.args.rest _ (refused c.add.result) (omega (arith, lt, length-map v.items lanes_view))
-          (getD_viewed lanes_view (λ x. x) v.items c.args.domain [] _ lt c.index_mut.ensures.value) c.add.ensures.answer;
+          (get_or_viewed lanes_view (λ x. x) v.items c.args.domain [] _ lt c.index_mut.ensures.value) c.add.ensures.answer;
       after = viewed lanes_view (with_lane c.args.free c.args.vertices.now c.args.edges.now c.args.rest) v.items c.args.domain _ c.add.new.self lt c.index_mut.ensures.value c.add.ensures.after;
     }

@@ -1,14 +1,14 @@
 use Rattle.std.proofs.Common.{[], length, ap, ◌∙◌, arith}
 use Rattle.patterns.specs.Tables.{lanes_view}
-use Rattle.patterns.proofs.Places.{getD_viewed, getD_view_past}
+use Rattle.patterns.proofs.Places.{get_or_viewed, get_or_view_past}
 use Rattle.patterns.proofs.table.LaneTable.lane_count.Goals as goal
 
 pub returns-then-domain-len : goal.returns-then-domain-len
 returns-then-domain-len c =
     let v = c.args.self.now.domains in
-    c.lane_count.ensures ∙ ap length (getD_viewed lanes_view (λ x. x) v.items c.args.domain [] c.index.result.now (omega (arith, v.ok.0, c.len.ensures, c.if-domain-len.true)) c.index.ensures)
+    c.lane_count.ensures ∙ ap length (get_or_viewed lanes_view (λ x. x) v.items c.args.domain [] c.index.result.now (omega (arith, v.ok.0, c.len.ensures, c.if-domain-len.true)) c.index.ensures)
 
 pub returns-else-domain-len : goal.returns-else-domain-len
 returns-else-domain-len c =
     let v = c.args.self.now.domains in
-    ap length (getD_view_past lanes_view (λ x. x) v.items c.args.domain [] (omega (arith, v.ok.0, c.len.ensures, c.if-domain-len.false)))
+    ap length (get_or_view_past lanes_view (λ x. x) v.items c.args.domain [] (omega (arith, v.ok.0, c.len.ensures, c.if-domain-len.false)))
