@@ -1,4 +1,3 @@
-use Rattle.std.proofs.Common.{sym, ap, ◌∙◌}
 use Rattle.interface.specs.Meaning.{Call}
 use Rattle.interface.proofs.Codes.{after_is, collect_is}
 use Rattle.layer.specs.Contents.{Contents}
@@ -13,6 +12,6 @@ returns g c =
     let x = view m.state c.args.self.now in
     let put : Contents → State = λ t. record { delay = x.delay; table = t; below = x.below } in
     record {
-      answer = collect_is level_codes level_of level_back r x _ (sym c.collect.ensures.answer);
-      after = after_is level_codes level_of level_back r Call.collect x _ (ap put c.collect.ensures.after ∙ sym (collect_any put x.table));
+      answer = collect_is level_codes level_of level_back r x _ (cc);
+      after = after_is level_codes level_of level_back r Call.collect x _ (cc (collect_any put x.table));
     }
