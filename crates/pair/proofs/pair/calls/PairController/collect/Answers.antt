@@ -1,4 +1,3 @@
-use Rattle.std.proofs.Common.{sym, ap, ◌∙◌}
 use Rattle.interface.specs.Meaning.{Call}
 use Rattle.interface.proofs.Codes.{after_is, collect_is}
 use Rattle.layer.specs.Contents.{Contents}
@@ -12,6 +11,6 @@ returns g c =
     let x = view g.A.Controller.state g.B.Controller.state c.args.self.now in
     let put : Contents → State = λ t. record { table = t; first = x.first; second = x.second } in
     record {
-      answer = collect_is pair_codes pair_of pair_back r x _ (sym c.collect.ensures.answer);
-      after = after_is pair_codes pair_of pair_back r Call.collect x _ (ap put c.collect.ensures.after ∙ sym (collect_any put x.table));
+      answer = collect_is pair_codes pair_of pair_back r x _ (cc);
+      after = after_is pair_codes pair_of pair_back r Call.collect x _ (cc (collect_any put x.table));
     }
