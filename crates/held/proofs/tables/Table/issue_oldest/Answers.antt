@@ -1,7 +1,7 @@
-use Rattle.std.proofs.Common.{◌≡◌, ◌<◌, ◌≤◌, true, false, cond, leb, length, get_or, set, Some, sym, ap, ◌∙◌, arith, le-leb}
+use Rattle.std.proofs.Common.{◌≡◌, ◌<◌, ◌≤◌, true, false, cond, leb, length, get_or, Some, sym, ap, ◌∙◌, arith, le-leb}
 use borrow.Author.Tests.{lt-leb}
 use Rattle.interface.specs.Slots.{place}
-use Rattle.held.specs.Entries.{admits, candidate, next_of, issued_now}
+use Rattle.held.specs.Entries.{admits, candidate, next_of}
 use Rattle.held.specs.Rows.{rows, issue_of}
 use Rattle.held.proofs.Stepping.{rows_path, next_there, next_not, issued_there}
 use Rattle.held.proofs.tables.Table.issue_oldest.Goals as goal
@@ -18,8 +18,7 @@ returns-then-i-len c =
     let oldest : next_of k x.entries ≡ Some e = next_there k x.entries e there ∙ ap Some item in
     let room : leb (length x.events) 32 ≡ true = le-leb _ _ (omega (arith, c.len.ensures, c.args.self.now.events.ok.0)) in
     rows_path _ (issue_of k x (Some e))
-    (ap (set x.entries c.find_oldest-i.result) c.issued.ensures ∙ ap (λ i. set x.entries i (issued_now e)) at
-    ∙ ap (λ g. set x.entries (place (candidate k) x.entries) (issued_now g)) (sym item) ∙ sym (issued_there k x.entries e there))
+    (cc (at, item, issued_there k x.entries e there))
     c.push_reserved.ensures.items
     ∙ ap (issue_of k x) (sym oldest) ∙ ap (λ b. cond b (issue_of k x (next_of k x.entries)) x) (sym room)
 
