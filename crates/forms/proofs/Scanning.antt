@@ -8,7 +8,7 @@ use Rattle.forms.specs.Signs.{Scan, with_next, scanned_within, scanned, unread, 
 use Rattle.std.specs.Option.{option_map}
 use Rattle.forms.proofs.Progress.{some_inside, some_moves}
 
--- what with-next does not look at may differ
+-- what with_next does not look at may differ
 only_if_some : (r : Answer) (m n : Scan) → ((l : Lexeme) → r ≡ Ok (Some l) → m ≡ n) → with_next r m ≡ with_next r n
 only_if_some (Ok None) m n h = refl
 only_if_some (Ok (Some l)) m n h = ap (with_next (Ok (Some l))) (h l refl)

@@ -105,7 +105,7 @@ module _ (span start : ℕ) (es : List Edge) where
   By n k (Some m) = m ≤ k
 
   module _ (base n many : ℕ) (stage : ℕ → Stage) (left : ℕ → ℕ) (spans : 1 ≤ span) (mids : (u : ℕ) → u < many → Mid n u (left u) (stage (base + u))) where
-    -- either some source is not done, or the greatest comes no later than leave-by
+    -- either some source is not done, or the greatest comes no later than leave_by
     greatest_by : (i : ℕ) → i < many → (ss : List Source) → AllByRecursion (Into base i es) ss → By n (leave_by i) (greatest_of stage ss)
     unfolding greatest_of
     greatest_by i h [] a = omega arith

@@ -158,7 +158,7 @@ all_on b t (q ∷ qs) h = (goes_on b t q h.0, all_on b t qs h.1)
 
 -- ---- all that leave
 
--- the T line of a request, as the model's `take-line`
+-- the T line of a request, as the model's `take_line`
 abbrev pub leave_line : ℕ → Request → Tables → List Line
 leave_line n q b = line_of letter.T n q.slot (flying q.bank q.kind (oldest q.bank q.kind (b.queue q.domain)))
 
