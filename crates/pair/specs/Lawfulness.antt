@@ -1,5 +1,5 @@
 -- A pair keeps the laws of the interface, if its two controllers do.
-use Rattle.std.specs.Prelude.{◌≡◌, ℕ, ◌^◌, ◌<◌, ◌≤◌, min, max, Bool, true, false, cond, not, List, [], ◌∷◌, ◌++◌, map, length, Some, None, Option, refl}
+use Rattle.std.specs.Prelude.{◌≡◌, ℕ, ◌^◌, ◌<◌, ◌≤◌, min, Bool, true, false, cond, not, List, [], ◌∷◌, ◌++◌, map, length, Some, None, Option, refl}
 use Rattle.std.proofs.Common.{sym, ap, ◌∙◌, subst, arith, length-append}
 use Rattle.std.proofs.lemmas.List.{length-map}
 use Rattle.interface.specs.Meaning.{Meaning, Call, after, Reached, first, is_empty, any, in_range, take_refusal, step_refusal, accepted}
@@ -265,7 +265,7 @@ module _ (m n : Meaning (List ℕ)) (k : Lawful m) (l : Lawful n) (short : (s : 
 pub pair_laws : (m n : Meaning (List ℕ)) → Lawful m → Lawful n → ((s : List ℕ) → m.span s < 2 ^ 64) → ((s : List ℕ) → n.span s < 2 ^ 64) → Lawful (pair_meaning m n)
 pair_laws m n k l short brief = lawful_coded pair_codes pair_of pair_back (meaning_of m n)
     (laws_of m n k l short brief (record {
-      same = λ s t e f. ap (λ x. max x (n.span s.second)) e ∙ ap (max (m.span t.first)) f;
+      same = λ s t e f. cc (e, f);
       first = λ s. omega arith;
       second = λ s. omega arith;
       fits = λ s. let h = short s.first in let j = brief s.second in omega arith;
