@@ -1,11 +1,21 @@
 -- What a line says.
-use Rattle.std.specs.Prelude.{ℕ, cond, List, [], ◌∷◌, Some, None, Ok, Err, Result, ◌==◌, nat_lt}
+use Rattle.std.specs.Prelude.{ℕ, cond, List, [], ◌∷◌, Some, None, Ok, Err, codes, Result, nat_lt}
 use Rattle.interface.specs.declared.Kind.{Kind}
-use Rattle.interface.specs.declared.Kind.TheVariants.{Read, Write}
+use Rattle.interface.specs.declared.UnknownKind.{UnknownKind}
+use Rattle.interface.specs.Kinds.{kind_of}
 use Rattle.tokens.specs.Lexemes.{opens, closes, word, number, Answer, Cursor, at_start, next_lexeme, moved}
 use Rattle.arrivals.specs.declared.reading.Arrival.{Arrival}
 use Rattle.arrivals.specs.declared.reading.Complaint.{Complaint}
 use Rattle.arrivals.specs.declared.reading.Complaint.TheVariants.{NoToken, NoNumber, NoKind, TooLate, TooHigh, TooLong}
+
+-- what a complaint is printed as
+abbrev pub text_of : Complaint → List ℕ
+text_of NoToken = codes "a byte or a number that may not stand there"
+text_of NoNumber = codes "a number is wanted"
+text_of NoKind = codes "R or W is wanted"
+text_of TooLate = codes "a step above 1,000,000"
+text_of TooHigh = codes "a bank or a domain above 7"
+text_of TooLong = codes "something follows the domain"
 
 abbrev pub number_in : Answer → Result ℕ Complaint
 number_in (Ok None) = Err NoNumber
@@ -19,13 +29,14 @@ number_in (Err e) = Err NoToken
 abbrev pub number_read : Cursor → Result ℕ Complaint
 number_read c = number_in (next_lexeme c)
 
--- 82 is the code of R, 87 that of W
-abbrev pub kind_of : ℕ → Result Kind Complaint
-kind_of l = cond (l == 82) (Ok Read) (cond (l == 87) (Ok Write) (Err NoKind))
+-- an unknown letter is no kind
+abbrev pub kind_or : Result Kind UnknownKind → Result Kind Complaint
+kind_or (Ok k) = Ok k
+kind_or (Err e) = Err NoKind
 
 abbrev pub kind_word : List ℕ → Result Kind Complaint
 kind_word [] = Err NoKind
-kind_word (l ∷ []) = kind_of l
+kind_word (l ∷ []) = kind_or (kind_of l)
 kind_word (l ∷ x ∷ xs) = Err NoKind
 
 abbrev pub kind_in : Answer → Result Kind Complaint

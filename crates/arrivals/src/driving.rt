@@ -1,5 +1,5 @@
 // Driving a controller: the arrivals of a step are taken, and the events of a step are collected.
-ghost use Rattle.std.specs.Prelude.{◌≡◌, ◌+◌, min, [], length, drop};
+ghost use Rattle.std.specs.Prelude.{◌≡◌, ◌+◌, ◌≤◌, min, [], length, drop};
 ghost use Rattle.interface.specs.Emptied.{emptied};
 ghost use Rattle.arrivals.specs.Driving.{admits, offered, taken_count, taken_state, filled};
 
@@ -11,13 +11,22 @@ fn offer<C: Controller>(controller: &mut C, arrival: Arrival, step: u64) -> bool
     ensures answer { result ≡ admits C.meaning step arrival (C.state controller.old) }
     ensures after { C.state controller.new ≡ offered C.meaning step arrival (C.state controller.old) }
 {
-    if arrival.step > step {
-        return false;
+    arrival.step <= step && controller.take(arrival.request).is_ok()
+}
+
+// Takes the arrivals whose step has come, up to the first that the controller refuses; how many it takes.
+fn take_all<C: Controller>(controller: &mut C, arrivals: &[Arrival], step: u64) -> usize
+    ensures answer { result ≡ taken_count C.meaning step arrivals.now (C.state controller.old) }
+    ensures within { result ≤ length arrivals.now }
+    ensures after { C.state controller.new ≡ taken_state C.meaning step arrivals.now (C.state controller.old) }
+{
+    // A loop, since the closure of `position` would change the controller that it holds, of which a proof then knows nothing.
+    for (taken, arrival) in arrivals.iter().enumerate() {
+        if !offer(controller, *arrival, step) {
+            return taken;
+        }
     }
-    match controller.take(arrival.request) {
-        Ok(()) => true,
-        Err(_) => false,
-    }
+    arrivals.len()
 }
 
 // Takes the arrivals from `next` on whose step has come, up to the first that the controller refuses; the number of the first
@@ -31,11 +40,10 @@ pub fn admit<C: Controller>(
     ensures answer { result ≡ next + taken_count C.meaning step (drop next arrivals.now) (C.state controller.old) }
     ensures after { C.state controller.new ≡ taken_state C.meaning step (drop next arrivals.now) (C.state controller.old) }
 {
-    let mut at = next;
-    while at < arrivals.len() && offer(controller, arrivals[at], step) {
-        at += 1;
+    match arrivals.get(next..) {
+        Some(rest) => next + take_all(controller, rest, step),
+        None => next,
     }
-    at
 }
 
 // Empties a controller. Of its events, in order, as many go to the front of `out` as fit.
@@ -47,6 +55,7 @@ pub fn drain<C: Controller>(controller: &mut C, out: &mut [Event]) -> usize
 {
     let mut n = 0;
     while let Some(event) = controller.collect() {
+        // An index, since the proof of a write through `get_mut` does not close.
         if n < out.len() {
             out[n] = event;
             n += 1;

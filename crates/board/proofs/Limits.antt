@@ -1,26 +1,25 @@
 -- The checks of the setting calls, with the free places in place of all slots.
-use Rattle.std.proofs.Common.{◌≡◌, ℕ, zero, suc, ◌+◌, ◌-◌, ◌<◌, ◌≤◌, Bool, true, false, cond, not, ◌&&◌, ◌||◌, ltb, leb, List, [], ◌∷◌, ◌++◌, map, length, get_or, set, replicate, Some, None, Option, sym, refl, ap, ◌∙◌, arith, length-append}
+use Rattle.std.proofs.Common.{◌≡◌, ℕ, zero, suc, ◌+◌, ◌-◌, ◌^◌, ◌<◌, ◌≤◌, Bool, true, false, not, ◌&&◌, ◌||◌, ltb, leb, List, [], ◌∷◌, ◌++◌, map, length, get_or, set, replicate, Some, None, Option, sym, refl, ap, ◌∙◌, subst, arith, length-append, length-set}
 use lib.ListN.{length-map}
-use Rattle.std.proofs.lemmas.Bool.{lt-ltb, le-ltb, ltb-true, ltb-false, lt-leb, le-leb}
+use Rattle.std.proofs.lemmas.Bool.{lt-ltb, le-ltb, ltb-true, ltb-false, lt-leb, le-leb, leb-true, leb-false}
 use Rattle.interface.specs.Meaning.{check, any, accepted}
 use Rattle.std.specs.Option.{option_map}
-use Rattle.std.proofs.lemmas.List.{map-set}
+use Rattle.std.proofs.lemmas.List.{map-set, get_or_past}
 use Rattle.patterns.specs.declared.setting.VertexSetting.{VertexSetting}
 use Rattle.patterns.specs.declared.setting.EdgeSetting.{EdgeSetting}
 use Rattle.patterns.specs.Lanes.{LaneView, lane_of, changed}
-use Rattle.patterns.specs.Tables.{lanes_view, with_lane, table_refusal}
+use Rattle.patterns.specs.Ticks.{tick_number}
+use Rattle.patterns.specs.Tables.{with_lane, table_refusal}
 use Rattle.patterns.proofs.Checks.{passes, few_lanes, good_shape, accepted_from, Accepted, GoodEdge, good_edges}
 use Rattle.patterns.proofs.Checks as checks
 use Rattle.patterns.specs.Shape.{lane_refusal, vertex_count, high_bank, bad_edges, edge_of}
 use Rattle.model.specs.Settings.{Pattern, Role, unset, opened, protected, Settings, role_of, patterns_of, is_unset, is_opened, all_slots, vertices, vertices_below, lane_vertices, pattern_at, vertices_from, open_slots, slots_from}
 use Rattle.model.specs.Calls.{Setting, opens, lane, first, settled, too_many, setting_refusal}
 use Rattle.board.specs.Sets.{spot_of, pattern_of, roles_of, settings_by, role_at, no_share, is_unset_at, open_checks, takes_no_lane, lane_checks, lane_formed, domain_formed, low_source, formed, first_checks, shares_view}
-use Rattle.board.specs.Boards.{BoardView, board_view, settings_of, with_setting, set_with}
-use Rattle.board.specs.Shares.{share_number}
-use Rattle.board.specs.declared.board.Board.{Board}
+use Rattle.board.specs.Boards.{BoardView, Known, slots_set, settings_of, with_setting, set_with}
 use Rattle.board.specs.declared.share.Share.{Share}
 use Rattle.board.proofs.Roles.{roles_length, role_is, unset_at, opened_at, lanes_at, open_settled, lane_settled}
-use Rattle.board.proofs.Totals.{open_adds, lane_adds}
+use Rattle.board.proofs.Totals.{open_adds, lane_adds, roles_only}
 
 -- so many more than are free, or together more than the places
 free_test : (places used n : ℕ) → 1 ≤ n → ltb (places - used) n ≡ ltb places (used + n)
@@ -118,12 +117,10 @@ formed_at [] d e = refl
 formed_at (t ∷ ts) zero e = not_back (domain_formed t) (or_false _ _ e).0
 formed_at (t ∷ ts) (suc d) e = formed_at ts d (or_false (not (domain_formed t)) _ e).1
 
--- what is known of a board
-pub record Known (b : BoardView) (used : ℕ) : Type 0 where
-  pub eight : length b.shares ≡ 8
-  pub as_many : length b.lanes ≡ 8
-  pub counted : used ≡ length (all_slots (settings_of b))
-  pub in_form : formed b.lanes ≡ true
+pub length_changed : {X : Type 0} (f : X → X) (xs : List X) (i : ℕ) → length (changed f xs i) ≡ length xs
+length_changed f [] i = refl
+length_changed f (x ∷ xs) zero = refl
+length_changed f (x ∷ xs) (suc i) = ap suc (length_changed f xs i)
 
 module _ (b : BoardView) (used : ℕ) (k : Known b used) where
   pub role : (d : ℕ) → role_of (settings_of b) d ≡ role_at (get_or b.shares d None) (get_or b.lanes d [])
@@ -218,7 +215,7 @@ module _ (b : BoardView) (used : ℕ) (k : Known b used) where
       pub lane_done : ts ≡ changed (λ ls. ls ++ (lane_of vs es rest ∷ [])) b.lanes d
       lane_done = moved ∙ changed_at (with_lane (places - used) vs es rest) (λ ls. ls ++ (lane_of vs es rest ∷ [])) b.lanes d [] (sym (checks.lane_added (places - used) vs es rest (get_or b.lanes d []) (length (get_or b.lanes d [])) refl (lane_of vs es rest) good refl).1)
 
-      pub lane_counts : used + length vs ≡ length (all_slots (settings_of (with_setting b (lane d vs es rest))))
+      lane_counts : used + length vs ≡ length (all_slots (settings_of (with_setting b (lane d vs es rest))))
       unfolding settled
       lane_counts =
           let c = settings_of b in
@@ -229,7 +226,7 @@ module _ (b : BoardView) (used : ℕ) (k : Known b used) where
           ∙ sym (lane_adds c d (record { spots = vs; edges = map edge_of es; rest = rest }) low_domain roles_eight closed count)
           ∙ ap (λ (s : Settings). length (all_slots s)) (sym (lane_settled b d vs es rest (k.eight ∙ sym k.as_many) bare))
 
-      pub lane_forms : formed ts ≡ true
+      lane_forms : formed ts ≡ true
       unfolding formed
       lane_forms =
           let a = accepted_from vs es rest (good_shape _ _ vs es rest good) in
@@ -239,6 +236,14 @@ module _ (b : BoardView) (used : ℕ) (k : Known b used) where
           ∙ ap not (any_at (λ ls. not (domain_formed ls)) (λ ls. ls ++ (lane_of vs es rest ∷ [])) b.lanes d [] all
           (ap not (domain_in_form (get_or b.lanes d []) (lane_of vs es rest) here few (lane_in_form vs es rest a))))
 
+      pub lane_known : Known (record { first = b.first; shares = b.shares; lanes = ts; slots = b.slots }) (used + length vs)
+      lane_known = record {
+        eight = k.eight;
+        as_many = ap length moved ∙ length_changed (with_lane (places - used) vs es rest) b.lanes d ∙ k.as_many;
+        counted = lane_counts ∙ ap (λ (t : List (List LaneView)). length (all_slots (settings_by b.first b.shares t))) (sym lane_done);
+        in_form = lane_forms;
+      }
+
 -- ---- what a setting leaves
 
 pub refused_view : (b : BoardView) (places : ℕ) (z : Setting) (j : ℕ) → Some j ≡ setting_refusal places (settings_of b) z → b ≡ set_with places z b
@@ -247,29 +252,26 @@ refused_view b places z j e = ap (λ o. accepted o (with_setting b z) b) e
 pub accepted_view : (b v : BoardView) (places : ℕ) (z : Setting) → None ≡ setting_refusal places (settings_of b) z → v ≡ with_setting b z → v ≡ set_with places z b
 accepted_view b v places z e is = is ∙ ap (λ o. accepted o (with_setting b z) b) e
 
-pub first_refused : (b : BoardView) (places n : ℕ) → first_checks n ≡ setting_refusal places (settings_of b) (first n)
+-- a first tick that is refused, and one that is not
+pub first_refused : (b : BoardView) (places n : ℕ) → None ≡ tick_number n → Some 16 ≡ setting_refusal places (settings_of b) (first n)
 unfolding setting_refusal
-first_refused b places n = refl
+first_refused b places n e = go (leb n (10 ^ 18)) refl
+  where
+    go : (t : Bool) → leb n (10 ^ 18) ≡ t → Some 16 ≡ first_checks n
+    go true k = let z : ◌≡◌ {A = ℕ} 0 1 = cc in absurd (omega arith)
+    go false k = sym (ap (λ x. check x 16 None) (lt-ltb (10 ^ 18) n (leb-false n (10 ^ 18) k)))
 
--- what a board's own facts say
-pub known : (b : Board) → Known (board_view b) b.used
-known b = record {
-  eight = length-map b.shares.items (option_map (λ (s : Share). s.slots)) ∙ sym b.shares.ok.0 ∙ b.eight;
-  as_many = length-map b.lanes.domains.items lanes_view ∙ sym b.lanes.domains.ok.0 ∙ b.lanes.eight;
-  counted = b.counted;
-  in_form = b.well_formed;
-}
+pub first_accepted : (b : BoardView) (places n m : ℕ) → Some m ≡ tick_number n → (None ≡ setting_refusal places (settings_of b) (first n)) × (m ≡ n)
+unfolding setting_refusal
+first_accepted b places n m e = go (leb n (10 ^ 18)) refl
+  where
+    go : (t : Bool) → leb n (10 ^ 18) ≡ t → (None ≡ first_checks n) × (m ≡ n)
+    go true k = (sym (ap (λ x. check x 16 None) (le-ltb (10 ^ 18) n (leb-true n (10 ^ 18) k))), cc)
+    go false k = let z : ◌≡◌ {A = ℕ} 0 1 = cc in absurd (omega arith)
 
 -- a share that is written
-pub shares_set : (ss : List (Option Share)) (d n : ℕ) (s : Share) → Some s.slots ≡ Some n → shares_view (set ss d (Some s)) ≡ set (shares_view ss) d (Some n)
-shares_set ss d n s e = map-set (option_map (λ (s : Share). s.slots)) ss d (Some s) ∙ ap (λ (o : Option ℕ). set (shares_view ss) d o) e
-
-pub share_is : (n x : ℕ) → Some x ≡ share_number n → Some x ≡ Some n
-share_is n x e = go (ltb n 1 || ltb 16 n) refl
-  where
-    go : (t : Bool) → (ltb n 1 || ltb 16 n) ≡ t → Some x ≡ Some n
-    go true k = let q : Some x ≡ None = e ∙ ap (λ t. cond t None (Some n)) k in let z : ◌≡◌ {A = ℕ} 0 1 = (cc) in absurd (omega arith)
-    go false k = e ∙ ap (λ t. cond t None (Some n)) k
+pub shares_set : (ss : List (Option Share)) (d n : ℕ) (s : Share) → s.slots ≡ n → shares_view (set ss d (Some s)) ≡ set (shares_view ss) d (Some n)
+shares_set ss d n s e = map-set (option_map (λ (s : Share). s.slots)) ss d (Some s) ∙ ap (λ k. set (shares_view ss) d (Some k)) e
 
 pub lane_barred : (b : BoardView) (used : ℕ) → Known b used → (places d : ℕ) (vs : List VertexSetting) (es : List EdgeSetting) (rest : ℕ) → true ≡ takes_no_lane b.shares d → Some 2 ≡ setting_refusal places (settings_of b) (lane d vs es rest)
 lane_barred b used k places d vs es rest e =
@@ -336,3 +338,45 @@ lane_sets b used k places d vs es rest e =
     let p = or_false (ltb 7 d) (is_opened (role_of c d)) one.0 in
     let same : is_opened (role_of c d) ≡ not (no_share (get_or b.shares d None)) = ap is_opened (role b used k d) ∙ opened_at (get_or b.shares d None) (get_or b.lanes d []) in
     lane_settled b d vs es rest (k.eight ∙ sym k.as_many) (none_shared (get_or b.shares d None) (sym same ∙ p.1))
+
+-- ---- what stays known of a board
+
+pub share_bounds : (ss : List (Option Share)) (d n : ℕ) → get_or (shares_view ss) d None ≡ Some n → (1 ≤ n) × (n ≤ 16)
+share_bounds [] d n e = let q : None ≡ Some n = sym (get_or_past [] d None (omega arith)) ∙ e in let z : ◌≡◌ {A = ℕ} 0 1 = (cc) in absurd (omega arith)
+share_bounds (None ∷ ss) zero n e = let z : ◌≡◌ {A = ℕ} 0 1 = (cc) in absurd (omega arith)
+share_bounds (Some s ∷ ss) zero n e = let q : s.slots ≡ n = (cc) in (omega (arith, s.least), omega (arith, s.most))
+share_bounds (s ∷ ss) (suc d) n e = share_bounds ss d n e
+
+-- a domain that has a share is one of the eight
+pub shared_low : (ss : List (Option ℕ)) (d n : ℕ) → length ss ≡ 8 → Some n ≡ get_or ss d None → d < 8
+shared_low ss d n eight e = go (ltb d 8) refl
+  where
+    go : (t : Bool) → ltb d 8 ≡ t → d < 8
+    go true k = ltb-true d 8 k
+    go false k =
+        let past = ltb-false d 8 k in
+        let q : Some n ≡ None = e ∙ get_or_past ss d None (omega (arith, past, eight)) in
+        let z : ◌≡◌ {A = ℕ} 0 1 = cc in absurd (omega arith)
+
+module _ (b : BoardView) (used : ℕ) (k : Known b used) where
+  -- where the lanes move on, and stay the same patterns
+  pub lanes_known : (us : List (List LaneView)) → length us ≡ length b.lanes → roles_of b.shares us ≡ roles_of b.shares b.lanes → formed us ≡ formed b.lanes → (ts : List (List LaneView)) → ts ≡ us
+      → Known (record { first = b.first; shares = b.shares; lanes = ts; slots = b.slots }) used
+  lanes_known us many roles form ts is = record {
+    eight = k.eight;
+    as_many = ap length is ∙ many ∙ k.as_many;
+    counted = k.counted
+        ∙ ap (λ (rs : List Role). length (all_slots (record { first = b.first; roles = rs }))) (sym roles)
+        ∙ ap (λ (t : List (List LaneView)). length (all_slots (settings_by b.first b.shares t))) (sym is);
+    in_form = ap formed is ∙ form ∙ k.in_form;
+  }
+
+  pub first_known : (n : ℕ) → Known (with_setting b (first n)) used
+  first_known n = record { eight = k.eight; as_many = k.as_many; counted = k.counted ∙ roles_only (settings_of b) (settings_of (with_setting b (first n))) refl; in_form = k.in_form }
+
+  pub open_known : (places d n : ℕ) → None ≡ setting_refusal places (settings_of b) (opens d n) → Known (with_setting b (opens d n)) (used + n)
+  open_known places d n e = record { eight = length-set b.shares d (Some n) ∙ k.eight; as_many = k.as_many; counted = open_counts b used k places d n e; in_form = k.in_form }
+
+-- where the board has become another, and so many slots more are set
+pub known_after : {a b w x : BoardView} {used : ℕ} (n : ℕ) → Known a used → a ≡ b → Known w (slots_set b + n) → x ≡ w → Known x (used + n)
+known_after {w = w} {used = used} n k e h is = subst (λ y. Known y (used + n)) (sym is) (subst (λ u. Known w (u + n)) (sym (k.counted ∙ ap slots_set e)) h)

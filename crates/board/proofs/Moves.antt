@@ -9,7 +9,7 @@ use Rattle.patterns.specs.Moves.{moved}
 use Rattle.patterns.specs.Lanes.{LaneView, changed, advanced, ended, renewed_at, renewed}
 use Rattle.model.specs.Settings.{protected}
 use Rattle.board.specs.Sets.{spot_of, pattern_of, role_at, roles_of, lane_formed, domain_formed, formed}
-use Rattle.board.proofs.Limits.{lane_form}
+use Rattle.board.proofs.Limits.{lane_form, length_changed}
 
 spots_moved : (e : VertexEvent) (vs : List Vertex) → map spot_of (map (moved e) vs) ≡ map spot_of vs
 spots_moved e [] = refl
@@ -54,13 +54,8 @@ module _ (g : LaneView → LaneView) (same : (l : LaneView) → pattern_of (g l)
   any_changed (l ∷ ls) zero = ap (λ t. not t || any (λ l. not (lane_formed l)) ls) (lane_form g same l)
   any_changed (l ∷ ls) (suc i) = ap (λ t. not (lane_formed l) || t) (any_changed ls i)
 
-  length_changed : (ls : List LaneView) (i : ℕ) → length (changed g ls i) ≡ length ls
-  length_changed [] i = refl
-  length_changed (l ∷ ls) zero = refl
-  length_changed (l ∷ ls) (suc i) = ap suc (length_changed ls i)
-
   domain_changed : (ls : List LaneView) (i : ℕ) → domain_formed (changed g ls i) ≡ domain_formed ls
-  domain_changed ls i = ap (λ n. leb n 8 && not (any (λ l. not (lane_formed l)) (changed g ls i))) (length_changed ls i) ∙ ap (λ t. leb (length ls) 8 && not t) (any_changed ls i)
+  domain_changed ls i = ap (λ n. leb n 8 && not (any (λ l. not (lane_formed l)) (changed g ls i))) (length_changed g ls i) ∙ ap (λ t. leb (length ls) 8 && not t) (any_changed ls i)
 
   any_domains : (ts : List (List LaneView)) (d i : ℕ) → any (λ ls. not (domain_formed ls)) (changed (λ ls. changed g ls i) ts d) ≡ any (λ ls. not (domain_formed ls)) ts
   any_domains [] d i = refl

@@ -1,15 +1,13 @@
 -- The public side of the tables as plain values, and what the setting calls do to it.
-use Rattle.std.specs.Prelude.{ℕ, ◌/◌, ◌%◌, List, [], ◌∷◌, ◌++◌, map, replicate, Some, None, vec_items, Option, slice_set}
+use Rattle.std.specs.Prelude.{◌≡◌, ℕ, ◌/◌, ◌%◌, true, List, [], ◌∷◌, ◌++◌, map, length, replicate, Some, None, Option, slice_set}
 use Rattle.interface.specs.Meaning.{accepted}
 use Rattle.patterns.specs.Lanes.{LaneView, lane_of, changed, started, renewed, advanced}
 use Rattle.patterns.specs.declared.vertex.VertexEvent.{VertexEvent}
-use Rattle.patterns.specs.Tables.{table_view}
-use Rattle.model.specs.Settings.{Settings}
+use Rattle.model.specs.Settings.{Settings, all_slots}
 use Rattle.model.specs.Calls.{Setting, opens, lane, first, setting_refusal}
-use Rattle.board.specs.declared.board.Board.{Board}
-use Rattle.board.specs.declared.slot.OpenSlot.{OpenSlot}
-use Rattle.board.specs.declared.slot.OpenSlot.TheVariants.{Free}
-use Rattle.board.specs.Sets.{shares_view, settings_by}
+use Rattle.board.specs.declared.share.Share.{Share}
+use Rattle.board.specs.Sets.{shares_view, settings_by, formed}
+use Rattle.board.specs.Slots.{OpenSlot, free}
 
 pub record BoardView : Type 0 where
   pub first : ℕ
@@ -17,11 +15,23 @@ pub record BoardView : Type 0 where
   pub lanes : List (List LaneView)
   pub slots : List OpenSlot
 
-abbrev pub board_view : Board → BoardView
-board_view b = record { first = b.first; shares = shares_view (vec_items b.shares); lanes = table_view b.lanes; slots = vec_items b.slots }
+-- the board of these parts
+abbrev pub board_of : ℕ → List (Option Share) → List (List LaneView) → List OpenSlot → BoardView
+board_of n shares lanes slots = record { first = n; shares = shares_view shares; lanes = lanes; slots = slots }
 
 abbrev pub settings_of : BoardView → Settings
 settings_of b = settings_by b.first b.shares b.lanes
+
+-- how many slots all shares and vertices have together
+abbrev pub slots_set : BoardView → ℕ
+slots_set b = length (all_slots (settings_of b))
+
+-- what is known of a board: eight domains, the number of slots that are set, and lanes as they should be
+pub record Known (b : BoardView) (used : ℕ) : Type 0 where
+  pub eight : length b.shares ≡ 8
+  pub as_many : length b.lanes ≡ 8
+  pub counted : used ≡ slots_set b
+  pub in_form : formed b.lanes ≡ true
 
 -- an accepted setting
 abbrev pub with_setting : BoardView → Setting → BoardView
@@ -34,7 +44,7 @@ abbrev pub set_with : ℕ → Setting → BoardView → BoardView
 set_with places z b = accepted (setting_refusal places (settings_of b) z) (with_setting b z) b
 
 unfoldable pub free_slots : List OpenSlot
-free_slots = replicate 512 Free
+free_slots = replicate 512 free
 
 -- nothing is set, and no slot is held
 abbrev pub new_board : BoardView

@@ -1,5 +1,5 @@
 -- What the slots have in flight, read from the board, and what an event of the controller does to it.
-use Rattle.std.specs.Prelude.{ℕ, ◌/◌, ◌%◌, List, [], Some, None, Option, slice_index_or}
+use Rattle.std.specs.Prelude.{ℕ, ◌/◌, ◌%◌, cond, nat_lt, List, [], Some, None, Option, slice_index_or}
 use Rattle.std.specs.List.{slice_get}
 use Rattle.interface.specs.declared.Event.{Event}
 use Rattle.interface.specs.declared.Event.TheVariants as reported
@@ -11,9 +11,12 @@ use Rattle.patterns.specs.declared.vertex.VertexEvent.TheVariants as event
 use Rattle.patterns.specs.declared.vertex.VertexState.{VertexState}
 use Rattle.patterns.specs.declared.vertex.VertexState.TheVariants.{Still, Flying, Done}
 use Rattle.patterns.specs.Lanes.{LaneView}
-use Rattle.board.specs.declared.slot.OpenSlot.{OpenSlot}
-use Rattle.board.specs.declared.slot.OpenSlot.TheVariants.{Free, Held}
+use Rattle.board.specs.Slots.{OpenSlot, free}
 use Rattle.board.specs.Boards.{BoardView, with_slot, advanced_board}
+
+-- a slot's number is at most 511
+abbrev pub slot_number : ℕ → Option ℕ
+slot_number n = cond (nat_lt n 512) (Some n) None
 
 -- ---- lanes by domain × 8 + lane, and vertices by slot
 
@@ -33,8 +36,8 @@ abbrev pub request_in : ℕ → ℕ → Kind → Request
 request_in t b k = record { slot = t; domain = t / 64; bank = b; kind = k }
 
 abbrev pub open_flight : ℕ → OpenSlot → Option Request
-open_flight t Free = None
-open_flight t (Held b k) = Some (request_in t b k)
+open_flight t None = None
+open_flight t (Some a) = Some (request_in t a.bank a.kind)
 
 abbrev pub state_flight : ℕ → ℕ → Kind → VertexState → Option Request
 state_flight t b k Still = None
@@ -52,12 +55,12 @@ flight_by t None o v = vertex_flight t v
 
 -- the request that a slot has in flight, if it has one
 unfoldable pub flight_at : BoardView → ℕ → Option Request
-flight_at b t = flight_by t (slice_index_or b.shares (t / 64) None) (slice_index_or b.slots t Free) (vertex_at b.lanes t)
+flight_at b t = flight_by t (slice_index_or b.shares (t / 64) None) (slice_index_or b.slots t free) (vertex_at b.lanes t)
 
 -- ---- Dones
 
 abbrev pub finished_by : Option ℕ → Tick → ℕ → BoardView → BoardView
-finished_by (Some share) n t b = with_slot t Free b
+finished_by (Some share) n t b = with_slot t free b
 finished_by None n t b = advanced_board (event.Done n) t b
 
 -- a Done frees a slot of an open domain, and moves a vertex on

@@ -1,5 +1,5 @@
 -- Who leaves in a tick, read from the board: no queue, row or serial has a part in it.
-use Rattle.std.specs.Prelude.{ℕ, suc, ◌+◌, ◌*◌, Bool, true, false, cond, ◌&&◌, List, [], ◌∷◌, ◌++◌, length, Some, None, vec_items, Option, nat_lt}
+use Rattle.std.specs.Prelude.{ℕ, suc, ◌+◌, ◌*◌, Bool, true, false, cond, ◌&&◌, List, [], ◌∷◌, ◌++◌, length, Some, None, Option, nat_lt}
 use Rattle.interface.specs.declared.Request.{Request}
 use Rattle.patterns.specs.declared.vertex.Vertex.{Vertex}
 use Rattle.patterns.specs.declared.vertex.VertexEvent.TheVariants.{Due}
@@ -7,7 +7,6 @@ use Rattle.patterns.specs.declared.vertex.VertexState.{VertexState}
 use Rattle.patterns.specs.declared.vertex.VertexState.TheVariants.{Still, Flying, Done}
 use Rattle.patterns.specs.Lanes.{LaneView, due_in}
 use Rattle.model.specs.Ticks.{is_due}
-use Rattle.board.specs.declared.departures.Departures.{Departures}
 use Rattle.board.specs.Boards.{BoardView, advanced_board}
 
 abbrev pub has_not_left : VertexState → Bool
@@ -49,8 +48,8 @@ board_leaving n b = domains_leaving n 0 b.shares b.lanes
 
 -- ---- the list of them, which has memory for 512
 
-abbrev pub requests_of : Departures → List Request
-requests_of d = vec_items d.list
+abbrev pub Requests : Type 0
+Requests = List Request
 
 abbrev pub added : Request → List Request → List Request
 added q qs = cond (nat_lt (length qs) 512) (qs ++ (q ∷ [])) qs

@@ -6,12 +6,21 @@ use Rattle.patterns.specs.declared.vertex.Vertex.{Vertex}
 use Rattle.patterns.specs.Lanes.{LaneView}
 use Rattle.model.specs.Ticks.{alike}
 use Rattle.model.specs.Calls.{slot_in_turn}
-use Rattle.board.specs.declared.slot.OpenSlot.{OpenSlot}
-use Rattle.board.specs.declared.slot.OpenSlot.TheVariants.{Free, Held}
+use Rattle.interface.specs.declared.Access.{Access}
+
+-- a slot of an open domain: free, or held by a request with this bank and kind
+abbrev pub OpenSlot : Type 0
+OpenSlot = Option Access
+
+abbrev pub free : OpenSlot
+free = None
+
+abbrev pub held : ℕ → Kind → OpenSlot
+held b k = Some (record { bank = b; kind = k })
 
 abbrev pub is_free : OpenSlot → Bool
-is_free Free = true
-is_free (Held b k) = false
+is_free None = true
+is_free (Some a) = false
 
 -- the slot of an open domain for the request with this serial
 abbrev pub turn_of : ℕ → ℕ → Option ℕ → Option ℕ
@@ -25,7 +34,3 @@ vertex_serves b k v = alike v.bank v.kind b k
 
 abbrev pub lane_serves : ℕ → Kind → LaneView → Bool
 lane_serves b k l = any (vertex_serves b k) l.vertices
-
-abbrev pub lane_at_serves : ℕ → Kind → Option LaneView → Bool
-lane_at_serves b k None = false
-lane_at_serves b k (Some l) = lane_serves b k l

@@ -3,6 +3,5 @@
 
 pub mod board;
 pub mod departures;
-pub mod fill;
 pub mod share;
-pub mod slot;
+mod slot;

@@ -29,16 +29,14 @@ mod tests {
             let mut events = [Event::Issue(0); 64];
             let _ = controller.step();
             let count = drain(controller, &mut events);
-            for (i, event) in events.iter().enumerate() {
-                if i < count && *event == wanted {
-                    return step;
-                }
+            if events.iter().take(count).any(|event| *event == wanted) {
+                return step;
             }
         }
         STEPS
     }
 
-    // Two requests of domain 0, taken before step 0: the step of the second's issue, and then of its Done.
+    // Two requests of domain 0, taken before step 0: the step in which the wanted event comes.
     fn second(rt: &HostRuntime, a: Request, b: Request, wanted: Event) -> Result<u32, Fail> {
         let mut controller = FirstCome::new(rt.alloc())?;
         let _ = controller.take(a);

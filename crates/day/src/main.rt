@@ -3,14 +3,12 @@
 #![tactic(auto)]
 
 mod plan;
-mod printing;
 
 use anyhow::anyhow;
 use first_come::FirstCome;
-use interface::{Controller, Kind};
+use interface::Kind;
 use model::{Letter, Line, Notice, Refusal};
-use plan::{BEGIN, FIRST, SETTINGS, SUBMITS, Submit, TICK, TICKS};
-use printing::{show_line, show_notice};
+use plan::{FIRST, SETTINGS, SUBMITS, Submit, TICKS};
 use scheduler::call::{Answer, Call};
 use scheduler::scheduler::Scheduler;
 use std::alloc::{AllocError, Global};
@@ -48,12 +46,60 @@ impl Day {
         })
     }
 
-    fn call(&mut self, call: &Call) -> Result<Answer, Refusal> {
-        self.scheduler.call(
-            *call,
-            self.lines.as_mut_slice(),
-            self.notices.as_mut_slice(),
-        )
+    fn call(&mut self, call: Call) -> Result<Answer, Refusal> {
+        self.scheduler.call(call, self.lines.as_mut_slice(), self.notices.as_mut_slice())
+    }
+
+    // Makes a setting call or begin, which has to be accepted.
+    fn set(&mut self, rt: &HostRuntime, call: Call) -> anyhow::Result<()> {
+        match self.call(call) {
+            Ok(_) => Ok(()),
+            Err(refusal) => Err(refused(rt, "a setting", refusal)?),
+        }
+    }
+
+    // Makes a submit, and prints its serial or why it is refused.
+    fn submit(&mut self, rt: &HostRuntime, planned: &Submit) -> anyhow::Result<()> {
+        let domain = planned.domain;
+        match self.call(Call::Submit(domain, planned.bank, planned.kind, planned.row)) {
+            Ok(Answer::Taken(serial)) => println!(rt; "(taken {domain} (serial {serial}))")?,
+            Ok(_) => return Err(anyhow!("a submit has no serial")),
+            Err(refusal) => {
+                let number = refusal.number();
+                println!(rt; "(refused {domain} (number {number}))")?;
+            }
+        }
+        Ok(())
+    }
+
+    // Makes the submits that come right before a tick.
+    fn submit_before(&mut self, rt: &HostRuntime, tick: u64) -> anyhow::Result<()> {
+        for planned in &SUBMITS {
+            if planned.tick == tick {
+                self.submit(rt, planned)?;
+            }
+        }
+        Ok(())
+    }
+
+    // Prints the first lines and the first notices of the buffers.
+    fn show(&self, rt: &HostRuntime, lines: usize, notices: usize) -> anyhow::Result<()> {
+        for line in self.lines.iter().take(lines) {
+            println!(rt; "{line}")?;
+        }
+        for notice in self.notices.iter().take(notices) {
+            println!(rt; "{notice}")?;
+        }
+        Ok(())
+    }
+
+    // Lets a tick pass, and prints what it wrote.
+    fn pass(&mut self, rt: &HostRuntime) -> anyhow::Result<()> {
+        match self.call(Call::Tick) {
+            Ok(Answer::Ticked(lines, notices)) => self.show(rt, lines, notices),
+            Ok(_) => Err(anyhow!("a tick has no counts")),
+            Err(refusal) => Err(refused(rt, "a tick", refusal)?),
+        }
     }
 }
 
@@ -63,68 +109,16 @@ fn refused(rt: &HostRuntime, call: &str, refusal: Refusal) -> Result<anyhow::Err
     Ok(anyhow!(format!(in rt.alloc(); "{call} is refused with {number}")?))
 }
 
-// Makes a setting call or begin, which has to be accepted.
-fn set(rt: &HostRuntime, day: &mut Day, call: &Call) -> anyhow::Result<()> {
-    match day.call(call) {
-        Ok(_) => Ok(()),
-        Err(refusal) => Err(refused(rt, "a setting", refusal)?),
-    }
-}
-
-// Makes a submit, and prints its serial or why it is refused.
-fn submit(rt: &HostRuntime, day: &mut Day, planned: &Submit) -> anyhow::Result<()> {
-    let domain = planned.domain;
-    match day.call(&Call::Submit(domain, planned.bank, planned.kind, planned.row)) {
-        Ok(Answer::Taken(serial)) => println!(rt; "(taken {domain} (serial {serial}))")?,
-        Ok(_) => return Err(anyhow!("a submit has no serial")),
-        Err(refusal) => {
-            let number = refusal.number();
-            println!(rt; "(refused {domain} (number {number}))")?;
-        }
-    }
-    Ok(())
-}
-
-// Makes the submits that come right before a tick.
-fn submit_before(rt: &HostRuntime, day: &mut Day, tick: u64) -> anyhow::Result<()> {
-    for planned in &SUBMITS {
-        if planned.tick == tick {
-            submit(rt, day, planned)?;
-        }
-    }
-    Ok(())
-}
-
-// Prints the first lines and the first notices of the buffers.
-fn show(rt: &HostRuntime, day: &Day, lines: usize, notices: usize) -> anyhow::Result<()> {
-    for line in day.lines.iter().take(lines) {
-        show_line(rt, line)?;
-    }
-    for notice in day.notices.iter().take(notices) {
-        show_notice(rt, notice)?;
-    }
-    Ok(())
-}
-
-// Lets a tick pass, and prints what it wrote.
-fn pass(rt: &HostRuntime, day: &mut Day) -> anyhow::Result<()> {
-    match day.call(&TICK) {
-        Ok(Answer::Ticked(lines, notices)) => show(rt, day, lines, notices),
-        Ok(_) => Err(anyhow!("a tick has no counts")),
-        Err(refusal) => Err(refused(rt, "a tick", refusal)?),
-    }
-}
-
 fn run(rt: &HostRuntime) -> anyhow::Result<()> {
     let mut day = Day::new(rt.alloc())?;
     for setting in &SETTINGS {
-        set(rt, &mut day, setting)?;
+        day.set(rt, *setting)?;
     }
-    submit_before(rt, &mut day, FIRST - 1)?;
-    set(rt, &mut day, &BEGIN)?;
+    day.submit_before(rt, FIRST - 1)?;
+    day.set(rt, Call::Begin)?;
     for tick in FIRST..FIRST + TICKS {
-        submit_before(rt, &mut day, tick)?;
-        pass(rt, &mut day)?;
+        day.submit_before(rt, tick)?;
+        day.pass(rt)?;
     }
     Ok(())
 }

@@ -1,6 +1,6 @@
 // What is set, and what is submitted when.
 use interface::Kind;
-use patterns::setting::{EdgeSetting, VertexSetting};
+use patterns::setting::{EdgeSetting, LaneSetting, VertexSetting};
 use scheduler::call::Call;
 
 // The first tick's number.
@@ -64,18 +64,34 @@ const JOIN_EDGES: [EdgeSetting; 2] = [
 
 // The setting calls but begin. Domains 2 and 3 are open.
 pub const SETTINGS: [Call<'static>; 6] = [
-    Call::Lane(0, &COPY, &COPY_EDGES, 20),
-    Call::Lane(0, &LOOK, &[], 50),
-    Call::Lane(1, &JOIN, &JOIN_EDGES, 0),
+    Call::Lane(
+        0,
+        LaneSetting {
+            vertices: &COPY,
+            edges: &COPY_EDGES,
+            rest: 20,
+        },
+    ),
+    Call::Lane(
+        0,
+        LaneSetting {
+            vertices: &LOOK,
+            edges: &[],
+            rest: 50,
+        },
+    ),
+    Call::Lane(
+        1,
+        LaneSetting {
+            vertices: &JOIN,
+            edges: &JOIN_EDGES,
+            rest: 0,
+        },
+    ),
     Call::Open(2, 2),
     Call::Open(3, 1),
     Call::First(FIRST),
 ];
-
-// These two are lent from here, since the borrow check does not cover a call without fields that is made where it is used.
-pub static BEGIN: Call<'static> = Call::Begin;
-
-pub static TICK: Call<'static> = Call::Tick;
 
 // A submit that comes right before a tick.
 #[derive(Clone, Copy)]

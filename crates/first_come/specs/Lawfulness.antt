@@ -12,8 +12,6 @@ use Rattle.interface.proofs.Codes.{lawful_coded}
 use Rattle.interface.proofs.Runs.{reached_keeps}
 use Rattle.interface.proofs.Takes.{take_ok}
 use Rattle.interface.proofs.Slots.{Apart, apart_append, apart_dropped, length_dropped, some_entries, collected_held, map_append}
-use Rattle.held.specs.declared.entries.Stage.{Stage}
-use Rattle.held.specs.declared.entries.Stage.TheVariants.{Waiting, Issued}
 use Rattle.held.specs.declared.entries.Entry.{Entry}
 use Rattle.held.specs.Entries.{later, key, dones, anyone, next_of, reading_of, new_entry}
 use Rattle.held.specs.Rows.{Rows, passed, issue_of, issue_oldest, first_out}
@@ -158,13 +156,13 @@ stepped_view s t none (sends e next a) = inr (anyone, e, next, refl, ap (λ evs.
 step_view : (s : State) → Reached state_meaning s → s.rows.events ≡ [] → Stepped s.rows.entries (state_meaning.stepped s).rows.entries (state_meaning.stepped s).rows.events
 step_view s r none = stepped_view s (issue (elapsed s)) none (outcome s none (sound s r).few)
 
-ample_at : (w : ℕ) (q : Request) (t : Stage) (l : ℕ) (es : List Entry) → ((v : ℕ) → Timely greatest_gap anyone v es → Ample es) → Timely greatest_gap anyone w (record { request = q; stage = t; left = l } ∷ es) → Ample (record { request = q; stage = t; left = l } ∷ es)
-ample_at w q Waiting l es ih t = (omega (arith, t.0), ih (w + greatest_gap) t.1)
-ample_at w q (Issued n) l es ih t = (t.0, ih w t.1)
+ample_at : (w : ℕ) (q : Request) (t : Option ℕ) (l : ℕ) (es : List Entry) → ((v : ℕ) → Timely greatest_gap anyone v es → Ample es) → Timely greatest_gap anyone w (record { request = q; until_done = t; left = l } ∷ es) → Ample (record { request = q; until_done = t; left = l } ∷ es)
+ample_at w q None l es ih t = (omega (arith, t.0), ih (w + greatest_gap) t.1)
+ample_at w q (Some n) l es ih t = (t.0, ih w t.1)
 
 ample : (es : List Entry) (w : ℕ) → Timely greatest_gap anyone w es → Ample es
 ample [] w t = tt
-ample (e ∷ es) w t = ample_at w e.request e.stage e.left es (ample es) t
+ample (e ∷ es) w t = ample_at w e.request e.until_done e.left es (ample es) t
 
 state_laws : Lawful state_meaning
 state_laws = record {

@@ -6,17 +6,13 @@ use Rattle.interface.specs.Coded.{coded}
 use Rattle.interface.specs.Codec.{Codec, number_codec, many, both, via}
 use Rattle.held.specs.declared.entries.Entry.{Entry}
 use Rattle.held.specs.Entries.{anyone, next_of}
-use Rattle.held.specs.Rows.{Rows, rows, no_rows, passed, table_meaning, issue_oldest, rows_codec}
+use Rattle.held.specs.Rows.{Rows, no_rows, passed, table_meaning, issue_oldest, rows_codec}
 use Rattle.first_come.specs.declared.gaps.Gaps.{Gaps}
-use Rattle.first_come.specs.declared.controller.FirstCome.{FirstCome}
 use Rattle.first_come.specs.Gaps.{no_gaps, gaps_passed, allows, with_issue}
 
 pub record State : Type 0 where
   pub rows : Rows
   pub gaps : Gaps
-
-abbrev pub view : FirstCome → State
-view c = record { rows = rows c.table; gaps = c.gaps }
 
 abbrev pub beginning : State
 beginning = record { rows = no_rows; gaps = no_gaps }
@@ -75,6 +71,3 @@ state_back s = ap (λ p. p.0) (state_codec.back s [])
 
 abbrev pub first_come_meaning : Meaning (List ℕ)
 first_come_meaning = coded state_codes state_of state_meaning
-
-abbrev pub first_come_state : FirstCome → List ℕ
-first_come_state c = state_codes (view c)

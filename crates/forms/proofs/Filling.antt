@@ -1,8 +1,8 @@
 -- The lists of a lane are its next part before the lists behind it.
 use Rattle.std.proofs.Common.{◌≡◌, ℕ, zero, suc, ◌<◌, ◌≤◌, Bool, true, false, cond, List, [], ◌∷◌, ◌++◌, length, Some, None, codes, Option, sym, refl, ap, ◌∙◌, subst, arith}
 use Rattle.std.specs.Str.{bytes_eq}
-use Rattle.forms.specs.declared.values.Vertex.{Vertex}
-use Rattle.forms.specs.declared.values.Edge.{Edge}
+use Rattle.patterns.specs.declared.setting.VertexSetting.{VertexSetting}
+use Rattle.patterns.specs.declared.setting.EdgeSetting.{EdgeSetting}
 use Rattle.forms.specs.declared.lanes.Part.{Part}
 use Rattle.forms.specs.declared.lanes.Part.TheVariants as part
 use Rattle.forms.specs.Signs.{Sign, opens, closes, word, number, Parsed, parsed}
@@ -63,13 +63,13 @@ part_shorter (word w ∷ ts) = tt
 part_shorter (number n ∷ ts) = tt
 
 -- what comes after a part is looked at with fewer signs only
-with_part_same : (o : Parsed Part) (n : ℕ) → Shorter n o → (vs : List Vertex) (es : List Edge) (k j : List Vertex → List Edge → List Sign → Parsed Lists) → ((vs : List Vertex) (es : List Edge) (ts : List Sign) → length ts < n → k vs es ts ≡ j vs es ts) → with_part o vs es k ≡ with_part o vs es j
+with_part_same : (o : Parsed Part) (n : ℕ) → Shorter n o → (vs : List VertexSetting) (es : List EdgeSetting) (k j : List VertexSetting → List EdgeSetting → List Sign → Parsed Lists) → ((vs : List VertexSetting) (es : List EdgeSetting) (ts : List Sign) → length ts < n → k vs es ts ≡ j vs es ts) → with_part o vs es k ≡ with_part o vs es j
 with_part_same None n s vs es k j h = refl
 with_part_same (Some ((part.Vertex v), ts)) n s vs es k j h = ap (λ x. cond (no_edges es) x None) (h (vs ++ v ∷ []) es ts s)
 with_part_same (Some ((part.Edge e), ts)) n s vs es k j h = h vs (es ++ e ∷ []) ts s
 with_part_same (Some (part.End, ts)) n s vs es k j h = refl
 
-enough : (m n : ℕ) (vs : List Vertex) (es : List Edge) (ts : List Sign) → length ts ≤ m → length ts ≤ n → lists_within m vs es ts ≡ lists_within n vs es ts
+enough : (m n : ℕ) (vs : List VertexSetting) (es : List EdgeSetting) (ts : List Sign) → length ts ≤ m → length ts ≤ n → lists_within m vs es ts ≡ lists_within n vs es ts
 unfolding lists_within
 enough zero zero vs es ts p q = refl
 enough zero (suc n) vs es [] p q = refl
@@ -79,13 +79,13 @@ enough (suc m) zero vs es (t ∷ ts) p q = absurd (omega arith)
 enough (suc m) (suc n) vs es ts p q =
     with_part_same (part_in ts) (length ts) (part_shorter ts) vs es (lists_within m) (lists_within n) (λ us fs ws l. enough m n us fs ws (omega arith) (omega arith))
 
-lists_next : (vs : List Vertex) (es : List Edge) (ts : List Sign) → lists_in vs es ts ≡ with_part (part_in ts) vs es lists_in
+lists_next : (vs : List VertexSetting) (es : List EdgeSetting) (ts : List Sign) → lists_in vs es ts ≡ with_part (part_in ts) vs es lists_in
 unfolding lists_in lists_within
 lists_next vs es ts =
     enough (length ts) (suc (length ts)) vs es ts (omega arith) (omega arith) ∙
     with_part_same (part_in ts) (length ts) (part_shorter ts) vs es (lists_within (length ts)) lists_in (λ us fs ws l. enough (length ts) (length ws) us fs ws (omega arith) (omega arith))
 
-module _ (vs : List Vertex) (es : List Edge) (ts : List Sign) where
+module _ (vs : List VertexSetting) (es : List EdgeSetting) (ts : List Sign) where
   by_part : (o : Parsed Part) → o ≡ part_in ts → with_part o vs es lists_in ≡ lists_in vs es ts
   by_part o e = ap (λ q. with_part q vs es lists_in) e ∙ sym (lists_next vs es ts)
 
@@ -95,13 +95,13 @@ module _ (vs : List Vertex) (es : List Edge) (ts : List Sign) where
   pub on_end : (us : List Sign) → Some (part.End, us) ≡ part_in ts → Some ((vs, es), us) ≡ lists_in vs es ts
   on_end us e = by_part (Some (part.End, us)) e
 
-  pub on_vertex : (v : Vertex) (us : List Sign) → Some (part.Vertex v, us) ≡ part_in ts → no_edges es ≡ true → lists_in (vs ++ v ∷ []) es us ≡ lists_in vs es ts
+  pub on_vertex : (v : VertexSetting) (us : List Sign) → Some (part.Vertex v, us) ≡ part_in ts → no_edges es ≡ true → lists_in (vs ++ v ∷ []) es us ≡ lists_in vs es ts
   on_vertex v us e t = sym (ap (λ b. cond b (lists_in (vs ++ v ∷ []) es us) None) t) ∙ by_part (Some (part.Vertex v, us)) e
 
-  pub on_late_vertex : (v : Vertex) (us : List Sign) → Some (part.Vertex v, us) ≡ part_in ts → no_edges es ≡ false → None ≡ lists_in vs es ts
+  pub on_late_vertex : (v : VertexSetting) (us : List Sign) → Some (part.Vertex v, us) ≡ part_in ts → no_edges es ≡ false → None ≡ lists_in vs es ts
   on_late_vertex v us e t = sym (ap (λ b. cond b (lists_in (vs ++ v ∷ []) es us) None) t) ∙ by_part (Some (part.Vertex v, us)) e
 
-  pub on_edge : (e : Edge) (us : List Sign) → Some (part.Edge e, us) ≡ part_in ts → lists_in vs (es ++ e ∷ []) us ≡ lists_in vs es ts
+  pub on_edge : (e : EdgeSetting) (us : List Sign) → Some (part.Edge e, us) ≡ part_in ts → lists_in vs (es ++ e ∷ []) us ≡ lists_in vs es ts
   on_edge e us is = by_part (Some (part.Edge e, us)) is
 
   pub less : (p : Part) (us : List Sign) → Some (p, us) ≡ part_in ts → length us < length ts

@@ -1,11 +1,12 @@
 -- The scan of a text is the next lexeme before the scan of what is behind it.
-use Rattle.std.proofs.Common.{◌≡◌, ℕ, zero, suc, ◌<◌, ◌≤◌, Bool, true, false, List, [], ◌∷◌, length, is_some, Some, None, Ok, Err, Decides, Option, sym, refl, ap, ◌∙◌, subst, arith}
+use Rattle.std.proofs.Common.{◌≡◌, ℕ, zero, suc, ◌<◌, ◌≤◌, Bool, true, false, List, [], ◌∷◌, length, Some, None, Ok, Err, Decides, Option, Result, sym, refl, ap, ◌∙◌, subst, arith}
 use Rattle.std.proofs.lemmas.Bool.{le-ltb, cond-false}
 use Rattle.tokens.specs.declared.lexer.Token.{Token}
 use Rattle.tokens.specs.declared.lexer.Fault.{Fault}
 use Rattle.tokens.specs.Lexemes.{Lexeme, lexeme, seen, Answer, Cursor, start_of, lexed, next_lexeme, moved}
 use Rattle.forms.specs.Signs.{Scan, with_next, scanned_within, scanned, unread, sign, token_sign, parsed, uncons}
-use Rattle.std.specs.Option.{option_map}
+use Rattle.std.specs.Option.{option_map, option_flatten}
+use Rattle.std.specs.Result.{result_ok}
 use Rattle.forms.proofs.Progress.{some_inside, some_moves}
 
 -- what with_next does not look at may differ
@@ -57,21 +58,16 @@ on_fault c e is =
     (ap (λ (x : Scan). x.signs) s, ap (λ (x : Scan). x.fault) s)
 
 -- an answer of the lexer, and where it then stands
-pub passed : (c d : Cursor) (o : Option Token) → seen (Ok o) ≡ next_lexeme c → d ≡ moved c → parsed (option_map token_sign o) (scanned d).signs ≡ uncons (scanned c).signs
-passed c d None e m = sym (ap uncons (on_none c e).0)
-passed c d (Some t) e m =
-    ap (λ k. Some (token_sign t, (scanned k).signs)) m ∙ sym (ap uncons (on_some c (lexeme t) e).0)
+pub passed : (c d : Cursor) (r : Result (Option Token) Fault) → seen r ≡ next_lexeme c → d ≡ moved c → parsed (option_map token_sign (option_flatten (result_ok r))) (scanned d).signs ≡ uncons (scanned c).signs
+passed c d (Ok None) e m = sym (ap uncons (on_none c e).0)
+passed c d (Ok (Some t)) e m = ap (λ k. Some (token_sign t, (scanned k).signs)) m ∙ sym (ap uncons (on_some c (lexeme t) e).0)
+passed c d (Err f) e m = sym (ap uncons (on_fault c f e).0)
 
 -- a token goes before, and there is less left
-pub on_token : (c d : Cursor) (o : Option Token) → is_some o ≡ true → seen (Ok o) ≡ next_lexeme c → d ≡ moved c → ((scanned d).fault ≡ (scanned c).fault) × (unread d < unread c)
-on_token c d None t e m = let z : ◌≡◌ {A = ℕ} 0 1 = cc in absurd (omega arith)
-on_token c d (Some t) y e m =
+pub on_token : (c d : Cursor) (t : Token) → Ok (Some (lexeme t)) ≡ next_lexeme c → d ≡ moved c → ((scanned d).fault ≡ (scanned c).fault) × (unread d < unread c)
+on_token c d t e m =
     let s = on_some c (lexeme t) e in
     (ap (λ (k : Cursor). (scanned k).fault) m ∙ sym s.1, subst (λ (k : Cursor). unread k < unread c) (sym m) s.2)
-
-pub on_no_token : (c : Cursor) (o : Option Token) → is_some o ≡ false → seen (Ok o) ≡ next_lexeme c → (scanned c).fault ≡ None
-on_no_token c None t e = (on_none c e).1
-on_no_token c (Some t) y e = let z : ◌≡◌ {A = ℕ} 0 1 = cc in absurd (omega arith)
 
 -- two tests that decide the same are the same
 pub decided : {P : Type 0} (a b : Bool) → Decides a P → Decides b P → a ≡ b

@@ -3,8 +3,8 @@ use Rattle.std.proofs.Common.{◌≡◌, ℕ, List, [], ◌∷◌, ◌++◌, Som
 use Rattle.interface.specs.declared.Kind.{Kind}
 use Rattle.interface.specs.declared.Kind.TheVariants.{Read, Write}
 use Rattle.forms.specs.declared.values.Policy.TheVariants.{FirstCome, Turns}
-use Rattle.forms.specs.declared.values.Vertex.{Vertex}
-use Rattle.forms.specs.declared.values.Edge.{Edge}
+use Rattle.patterns.specs.declared.setting.VertexSetting.{VertexSetting}
+use Rattle.patterns.specs.declared.setting.EdgeSetting.{EdgeSetting}
 use Rattle.forms.specs.declared.lanes.Part.TheVariants as part
 use Rattle.forms.specs.Signs.{Sign, closes}
 use Rattle.forms.specs.Contents.{controller, share, lane, first, begin, submit, ticks}
@@ -18,19 +18,19 @@ vertex_part : (b : ℕ) (k : Kind) (ts : List Sign) → Some (part.Vertex (recor
 vertex_part b Read ts = refl
 vertex_part b Write ts = refl
 
-vertices : (us vs : List Vertex) (ts : List Sign) → lists_in us [] (vertices_before vs ts) ≡ lists_in (us ++ vs) [] ts
+vertices : (us vs : List VertexSetting) (ts : List Sign) → lists_in us [] (vertices_before vs ts) ≡ lists_in (us ++ vs) [] ts
 vertices us [] ts = ap (λ xs. lists_in xs [] ts) (sym (append-nil us))
 vertices us (v ∷ vs) ts =
     sym (on_vertex us [] (vertices_before (v ∷ vs) ts) v (vertices_before vs ts) (vertex_part v.bank v.kind (vertices_before vs ts)) refl)
     ∙ vertices (us ++ v ∷ []) vs ts ∙ ap (λ xs. lists_in xs [] ts) (append_assoc us (v ∷ []) vs)
 
-edges : (us : List Vertex) (ds es : List Edge) (ts : List Sign) → lists_in us ds (edges_before es ts) ≡ lists_in us (ds ++ es) ts
+edges : (us : List VertexSetting) (ds es : List EdgeSetting) (ts : List Sign) → lists_in us ds (edges_before es ts) ≡ lists_in us (ds ++ es) ts
 edges us ds [] ts = ap (λ xs. lists_in us xs ts) (sym (append-nil ds))
 edges us ds (e ∷ es) ts =
     sym (on_edge us ds (edges_before (e ∷ es) ts) e (edges_before es ts) refl)
     ∙ edges us (ds ++ e ∷ []) es ts ∙ ap (λ xs. lists_in us xs ts) (append_assoc ds (e ∷ []) es)
 
-lists : (vs : List Vertex) (es : List Edge) → lists_in [] [] (vertices_before vs (edges_before es (closes ∷ []))) ≡ Some ((vs, es), [])
+lists : (vs : List VertexSetting) (es : List EdgeSetting) → lists_in [] [] (vertices_before vs (edges_before es (closes ∷ []))) ≡ Some ((vs, es), [])
 lists vs es = vertices [] vs (edges_before es (closes ∷ [])) ∙ edges vs [] es (closes ∷ []) ∙ sym (on_end vs es (closes ∷ []) [] refl)
 
 submitted : (d b : ℕ) (k : Kind) (r : ℕ) → form_of (spelled (submit (record { domain = d; bank = b; kind = k; row = r }))) ≡ Some (submit (record { domain = d; bank = b; kind = k; row = r }))

@@ -1,10 +1,11 @@
 -- The lane: its head, its vertices, and then its edges, any number of each.
-use Rattle.std.specs.Prelude.{ℕ, zero, suc, Bool, true, false, cond, List, [], ◌∷◌, ◌++◌, length, Some, None, vec_items, codes, ◌==◌}
+use Rattle.std.specs.Prelude.{ℕ, zero, suc, Bool, cond, List, [], ◌∷◌, ◌++◌, length, Some, None, vec_items, codes, ◌==◌}
 use Rattle.std.specs.Str.{bytes_eq}
-use Rattle.forms.specs.declared.values.Vertex.{Vertex}
-use Rattle.forms.specs.declared.values.Edge.{Edge}
+use Rattle.patterns.specs.declared.setting.VertexSetting.{VertexSetting}
+use Rattle.patterns.specs.declared.setting.EdgeSetting.{EdgeSetting}
 use Rattle.forms.specs.declared.values.Lane.{Lane}
 use Rattle.forms.specs.declared.lanes.Head.{Head}
+use Rattle.forms.specs.declared.lanes.Lists.{Lists as VecLists}
 use Rattle.forms.specs.declared.lanes.Part.{Part}
 use Rattle.forms.specs.declared.lanes.Part.TheVariants as part
 use Rattle.forms.specs.Signs.{Sign, opens, closes, word, number, Parsed, uncons}
@@ -47,32 +48,31 @@ part_by (number n) ts = None
 abbrev pub part_in : List Sign → Parsed Part
 part_in ts = then (uncons ts) part_by
 
-abbrev pub no_edges : List Edge → Bool
+abbrev pub no_edges : List EdgeSetting → Bool
 no_edges es = length es == 0
 
 -- vertices and edges
 abbrev pub Lists : Type 0
-Lists = List Vertex × List Edge
+Lists = List VertexSetting × List EdgeSetting
 
 -- a part that comes after vertices vs and edges es, and then what k reads: a vertex does not come after an edge
-abbrev pub with_part : Parsed Part → List Vertex → List Edge → (List Vertex → List Edge → List Sign → Parsed Lists) → Parsed Lists
+abbrev pub with_part : Parsed Part → List VertexSetting → List EdgeSetting → (List VertexSetting → List EdgeSetting → List Sign → Parsed Lists) → Parsed Lists
 with_part None vs es k = None
 with_part (Some ((part.Vertex v), ts)) vs es k = cond (no_edges es) (k (vs ++ v ∷ []) es ts) None
 with_part (Some ((part.Edge e), ts)) vs es k = k vs (es ++ e ∷ []) ts
 with_part (Some (part.End, ts)) vs es k = Some ((vs, es), ts)
 
 -- at most n parts
-unfoldable pub lists_within : ℕ → List Vertex → List Edge → List Sign → Parsed Lists
+unfoldable pub lists_within : ℕ → List VertexSetting → List EdgeSetting → List Sign → Parsed Lists
 lists_within zero vs es ts = None
 lists_within (suc n) vs es ts = with_part (part_in ts) vs es (lists_within n)
 
 -- a part has at least one sign, so that there are no more than signs
-unfoldable pub lists_in : List Vertex → List Edge → List Sign → Parsed Lists
+unfoldable pub lists_in : List VertexSetting → List EdgeSetting → List Sign → Parsed Lists
 lists_in vs es ts = lists_within (length ts) vs es ts
 
-abbrev pub filled : Bool → List Vertex → List Edge → List Sign → Parsed Lists
-filled true vs es ts = Some ((vs, es), ts)
-filled false vs es ts = None
+abbrev pub lists_content : VecLists → Lists
+lists_content l = (vec_items l.vertices, vec_items l.edges)
 
 abbrev pub lane_content : Lane → Content
 lane_content l = content.lane l.domain l.rest (vec_items l.vertices) (vec_items l.edges)

@@ -1,12 +1,12 @@
 -- The lines of a text, and what is read of each.
-use Rattle.std.specs.Prelude.{ℕ, ◌+◌, Bool, true, false, cond, not, ◌&&◌, List, length, take, drop, Some, None, Ok, Err, Option, Result, ◌==◌, nat_le, nat_lt}
+use Rattle.std.specs.Prelude.{◌≡◌, ℕ, ◌+◌, Bool, true, false, cond, not, ◌&&◌, List, length, take, drop, Some, None, Ok, Err, Option, Result, ◌==◌, nat_le, nat_lt}
 use Rattle.std.specs.List.{prefix_len}
 use Rattle.tokens.specs.declared.lexer.Fault as tokens
 use Rattle.tokens.specs.Lexemes.{started}
 use Rattle.forms.specs.declared.faults.Fault.{Fault}
-use Rattle.forms.specs.declared.reader.Reading.{Reading}
-use Rattle.forms.specs.declared.reader.Reading.TheVariants as reading
-use Rattle.forms.specs.declared.reader.Reader.{Reader}
+use Rattle.forms.specs.declared.reader.ReadError.{ReadError}
+use Rattle.forms.specs.declared.reader.ReadError.TheVariants as error
+use Rattle.forms.specs.declared.values.Form.{Form}
 use Rattle.forms.specs.Contents.{Content}
 use Rattle.forms.specs.Signs.{scanned}
 use Rattle.forms.specs.Forms.{content, form_of, is_controller}
@@ -42,10 +42,16 @@ pub data Read : Type 0 where
   bad : Fault → Read
   ended : Read
 
-abbrev pub read : Reading → Read
-read (reading.Form f) = good (content f)
-read (reading.Fault e) = bad e
-read reading.End = ended
+-- what the reader answers where this is to be read; a failure of memory says nothing of it
+abbrev pub IsRead : Result (Option Form) ReadError → Read → Type 0
+IsRead (Ok (Some f)) r = good (content f) ≡ r
+IsRead (Ok None) r = ended ≡ r
+IsRead (Err (error.Fault e)) r = bad e ≡ r
+IsRead (Err (error.Memory e)) r = Unit {0}
+
+abbrev pub one_line : Result Form ReadError → Result (Option Form) ReadError
+one_line (Ok f) = Ok (Some f)
+one_line (Err e) = Err e
 
 abbrev pub placed : ℕ → Option Content → Read
 placed at None = bad (form_fault at)
@@ -65,8 +71,8 @@ pub record Place : Type 0 where
   pub text : List ℕ
   pub at : ℕ
 
-abbrev pub place : Reader → Place
-place r = record { text = r.text.now; at = r.at }
+abbrev pub placed_at : List ℕ → ℕ → Place
+placed_at text at = record { text = text; at = at }
 
 abbrev pub next_read : Place → Read
 next_read p = cond (past_end p.text p.at) ended (line_read (take (line_end p.text p.at) p.text) p.at)
@@ -74,14 +80,6 @@ next_read p = cond (past_end p.text p.at) ended (line_read (take (line_end p.tex
 abbrev pub next_place : Place → Place
 next_place p = cond (past_end p.text p.at) p (record { text = p.text; at = line_after p.text (line_end p.text p.at) })
 
--- a reader, or the fault of a text that is too long
-pub data Begun : Type 0 where
-  at_first : Place → Begun
-  too_long : Fault → Begun
-
-abbrev pub begun : List ℕ → Begun
-begun text = cond (nat_lt longest (length text)) (too_long length_fault) (at_first (record { text = text; at = 0 }))
-
-abbrev pub opened : Result Reader Fault → Begun
-opened (Ok r) = at_first (place r)
-opened (Err e) = too_long e
+-- a reader at the first line, or the fault of a text that is too long
+abbrev pub begun : List ℕ → Result Place Fault
+begun text = cond (nat_lt longest (length text)) (Err length_fault) (Ok (placed_at text 0))

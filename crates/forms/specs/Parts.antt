@@ -1,8 +1,9 @@
 -- The smallest parts of a form, each read from the front of a list of signs.
-use Rattle.std.specs.Prelude.{ℕ, cond, List, [], ◌∷◌, Some, None, Option, ◌==◌}
+use Rattle.std.specs.Prelude.{ℕ, cond, List, [], ◌∷◌, Some, None, Option}
+use Rattle.std.specs.Result.{result_ok}
 use Rattle.std.specs.Str.{bytes_eq}
 use Rattle.interface.specs.declared.Kind.{Kind}
-use Rattle.interface.specs.declared.Kind.TheVariants.{Read, Write}
+use Rattle.interface.specs.Kinds.{kind_of}
 use Rattle.forms.specs.Signs.{Sign, opens, closes, word, number, Parsed, parsed, uncons}
 
 -- one part, and then the next
@@ -57,13 +58,10 @@ is_name wanted w = cond (bytes_eq w wanted) (Some tt) None
 abbrev pub name_in : List ℕ → List Sign → Parsed Unit
 name_in wanted ts = then (word_in ts) (λ w us. parsed (is_name wanted w) us)
 
--- R is a read, W a write; 82 and 87 are their codes
-abbrev pub kind_of_letter : ℕ → Option Kind
-kind_of_letter c = cond (c == 82) (Some Read) (cond (c == 87) (Some Write) None)
-
+-- a word of one letter that names a kind
 abbrev pub kind_of_word : List ℕ → Option Kind
 kind_of_word [] = None
-kind_of_word (c ∷ []) = kind_of_letter c
+kind_of_word (c ∷ []) = result_ok (kind_of c)
 kind_of_word (c ∷ d ∷ cs) = None
 
 abbrev pub kind_in : List Sign → Parsed Kind

@@ -2,8 +2,7 @@
 use Rattle.std.specs.Prelude.{ℕ, zero, suc, ◌-◌, List, [], ◌∷◌, length, Some, None, Ok, Err, Option}
 use Rattle.tokens.specs.declared.lexer.Token.{Token}
 use Rattle.tokens.specs.declared.lexer.Fault.{Fault}
-use Rattle.tokens.specs.declared.lexer.Lexer.{Lexer}
-use Rattle.tokens.specs.Lexemes.{Lexeme, Answer, Cursor, lexeme, cursor, next_lexeme, moved}
+use Rattle.tokens.specs.Lexemes.{Lexeme, Answer, Cursor, lexeme, next_lexeme, moved}
 use Rattle.tokens.specs.Lexemes as lexemes
 
 pub data Sign : Type 0 where
@@ -46,8 +45,8 @@ unfoldable pub scanned : Cursor → Scan
 scanned c = scanned_within (unread c) c
 
 -- what is ahead of a lexer
-abbrev pub ahead : Lexer → List Sign
-ahead l = (scanned (cursor l)).signs
+abbrev pub ahead : Cursor → List Sign
+ahead c = (scanned c).signs
 
 -- a value that is read, with the signs behind it
 abbrev pub Parsed : Type 0 → Type 0

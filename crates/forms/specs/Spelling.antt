@@ -4,8 +4,8 @@ use Rattle.interface.specs.declared.Kind.{Kind}
 use Rattle.interface.specs.declared.Kind.TheVariants.{Read, Write}
 use Rattle.forms.specs.declared.values.Policy.{Policy}
 use Rattle.forms.specs.declared.values.Policy.TheVariants.{FirstCome, Turns}
-use Rattle.forms.specs.declared.values.Vertex.{Vertex}
-use Rattle.forms.specs.declared.values.Edge.{Edge}
+use Rattle.patterns.specs.declared.setting.VertexSetting.{VertexSetting}
+use Rattle.patterns.specs.declared.setting.EdgeSetting.{EdgeSetting}
 use Rattle.forms.specs.Signs.{Sign, opens, closes, word, number}
 use Rattle.forms.specs.Contents.{Content, controller, share, lane, first, begin, submit, ticks}
 use Rattle.forms.specs.Forms.{form_of}
@@ -30,11 +30,11 @@ vertex_signs b k ts = opens ∷ word (codes "vertex") ∷ number b ∷ kind_sign
 abbrev pub edge_signs : ℕ → ℕ → ℕ → List Sign → List Sign
 edge_signs f t w ts = opens ∷ word (codes "edge") ∷ number f ∷ number t ∷ number w ∷ closes ∷ ts
 
-abbrev pub vertices_before : List Vertex → List Sign → List Sign
+abbrev pub vertices_before : List VertexSetting → List Sign → List Sign
 vertices_before [] ts = ts
 vertices_before (v ∷ vs) ts = vertex_signs v.bank v.kind (vertices_before vs ts)
 
-abbrev pub edges_before : List Edge → List Sign → List Sign
+abbrev pub edges_before : List EdgeSetting → List Sign → List Sign
 edges_before [] ts = ts
 edges_before (e ∷ es) ts = edge_signs e.source e.target e.weight (edges_before es ts)
 

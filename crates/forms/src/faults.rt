@@ -1,56 +1,90 @@
 // The fault of a line: what it is, where it stands, and which layer found it.
 ghost use Rattle.std.specs.Prelude.{◌≡◌};
-ghost use Rattle.forms.specs.Faults.{token_fault, form_fault, length_fault};
+ghost use Rattle.forms.specs.Faults.{number, IsTokenFault, form_fault, length_fault};
 
 use tokens::Fault as TokenFault;
 
+// The most bytes that a text may have.
+pub const LONGEST: usize = 65_536;
+
 // The layers that a line goes through, in their order.
-#[derive(Clone, Copy)]
+#[derive(Clone, Copy, PartialEq, Eq, Debug)]
 pub enum Layer {
     Token,
     Form,
     Setting,
 }
 
-#[derive(Clone, Copy)]
+// What is wrong, with the number by which each fault is known.
+#[derive(Clone, Copy, PartialEq, Eq, Debug)]
+pub enum FaultKind {
+    // what a setting call refuses, 1 to 7
+    WrongPhase = 1,
+    DomainTaken = 2,
+    BadShare = 3,
+    BadCount = 4,
+    VertexBank = 5,
+    BadEdge = 6,
+    NoPlaces = 7,
+    // a byte that no token has
+    UnknownByte = 22,
+    // a number above 10^18 or with a leading zero
+    BadNumber = 23,
+    // a form that is unknown, unclosed, missing or out of place
+    BadForm = 24,
+    // a text of more than 65,536 bytes
+    TooLong = 25,
+}
+
+#[derive(Clone, Copy, PartialEq, Eq, Debug)]
 pub struct Fault {
-    // the number by which the fault is known
-    pub number: u8,
+    pub kind: FaultKind,
     // the byte, from 0, where its token or else its line begins
     pub byte: usize,
     pub layer: Layer,
 }
 
 impl Fault {
-    // A byte that no token has (22), or a bad number (23).
-    pub fn token(fault: TokenFault) -> Fault
-        ensures { result ≡ token_fault fault }
+    pub fn number(self) -> u8
+        ensures { result ≡ number self }
     {
-        Fault {
-            number: fault.number(),
-            byte: fault.place(),
-            layer: Layer::Token,
-        }
+        self.kind as u8
     }
 
-    // A form that is unknown, unclosed, missing or out of place, in the line that begins at a byte.
+    // No good form, in the line that begins at a byte.
     pub fn form(line: usize) -> Fault
         ensures { result ≡ form_fault line }
     {
         Fault {
-            number: 24,
+            kind: FaultKind::BadForm,
             byte: line,
             layer: Layer::Form,
         }
     }
 
-    // More than 65,536 bytes.
     pub fn length() -> Fault
         ensures { result ≡ length_fault }
     {
         Fault {
-            number: 25,
-            byte: 65_536,
+            kind: FaultKind::TooLong,
+            byte: LONGEST,
+            layer: Layer::Token,
+        }
+    }
+}
+
+// A fault of a token keeps its number and its place.
+impl From<TokenFault> for Fault {
+    ghost from_gives = { λ token fault. IsTokenFault token fault };
+
+    fn from(token: TokenFault) -> Fault {
+        let kind = match token {
+            TokenFault::UnknownByte(_) => FaultKind::UnknownByte,
+            TokenFault::BadNumber(_) => FaultKind::BadNumber,
+        };
+        Fault {
+            kind,
+            byte: token.place(),
             layer: Layer::Token,
         }
     }

@@ -3,19 +3,18 @@ ghost use Rattle.std.specs.Prelude.{◌≡◌};
 ghost use Rattle.forms.specs.Signs.{ahead, parsed};
 ghost use Rattle.forms.specs.Forms.{policy_of, policy_in, share_in, submission_in};
 
-use crate::parts::{close, field, kind, number, same, word};
+use crate::parts::{field, kind, number, word};
 use crate::values::{Policy, Share, Submission};
 use tokens::Lexer;
 
+// None, since a word that names no controller is one fault with any other bad form.
 fn policy_of(word: &[u8]) -> Option<Policy>
     ensures { result ≡ policy_of word.now }
 {
-    if same(word, b"come") {
-        Some(Policy::FirstCome)
-    } else if same(word, b"turns") {
-        Some(Policy::Turns)
-    } else {
-        None
+    match word {
+        b"come" => Some(Policy::FirstCome),
+        b"turns" => Some(Policy::Turns),
+        _ => None,
     }
 }
 

@@ -1,12 +1,13 @@
 // The lane: its vertices, and then its edges.
-ghost use Rattle.std.specs.Prelude.{◌≡◌, true, false, IfOk};
+ghost use Rattle.std.specs.Prelude.{◌≡◌, [], IfOk};
 ghost use Rattle.std.specs.Option.{option_map};
 ghost use Rattle.forms.specs.Signs.{ahead, parsed};
-ghost use Rattle.forms.specs.Lanes.{head_in, vertex_in, edge_in, part_in, inner_part_in, no_edges, lists_in, filled, lane_content, lane_in};
+ghost use Rattle.forms.specs.Lanes.{head_in, vertex_in, edge_in, part_in, inner_part_in, lists_in, lists_content, lane_content, lane_in};
 
-use crate::parts::{close, field, kind, number, same, word};
+use crate::parts::{close, field, kind, number, word};
 use crate::signs::next;
-use crate::values::{Edge, Lane, Vertex};
+use crate::values::Lane;
+use patterns::setting::{EdgeSetting, VertexSetting};
 use std::alloc::{AllocError, Global};
 use tokens::{Lexer, Token};
 
@@ -17,12 +18,19 @@ pub struct Head {
     pub rest: u64,
 }
 
-// What may stand behind the head: a vertex, an edge, or the bracket that ends the lane.
+// What may stand behind the head. The bracket that ends the lane is a part too, since no part at all is a fault.
 #[derive(Clone, Copy)]
 pub enum Part {
-    Vertex(Vertex),
-    Edge(Edge),
+    Vertex(VertexSetting),
+    Edge(EdgeSetting),
     End,
+}
+
+// Vertices and edges.
+#[derive(Drop)]
+pub struct Lists {
+    pub vertices: Vec<VertexSetting>,
+    pub edges: Vec<EdgeSetting>,
 }
 
 fn lane_head(lexer: &mut Lexer) -> Option<Head>
@@ -39,7 +47,7 @@ fn vertex(lexer: &mut Lexer) -> Option<Part>
     let bank = number(lexer)?;
     let kind = kind(lexer)?;
     close(lexer)?;
-    Some(Part::Vertex(Vertex { bank, kind }))
+    Some(Part::Vertex(VertexSetting { bank, kind }))
 }
 
 fn edge(lexer: &mut Lexer) -> Option<Part>
@@ -49,7 +57,7 @@ fn edge(lexer: &mut Lexer) -> Option<Part>
     let target = number(lexer)?;
     let weight = number(lexer)?;
     close(lexer)?;
-    Some(Part::Edge(Edge {
+    Some(Part::Edge(EdgeSetting {
         source,
         target,
         weight,
@@ -61,12 +69,10 @@ fn inner_part(lexer: &mut Lexer) -> Option<Part>
     ensures { parsed result (ahead lexer.new) ≡ inner_part_in (ahead lexer.old) }
 {
     let word = word(lexer)?;
-    if same(word, b"vertex") {
-        vertex(lexer)
-    } else if same(word, b"edge") {
-        edge(lexer)
-    } else {
-        None
+    match word {
+        b"vertex" => vertex(lexer),
+        b"edge" => edge(lexer),
+        _ => None,
     }
 }
 
@@ -80,34 +86,23 @@ fn next_part(lexer: &mut Lexer) -> Option<Part>
     }
 }
 
-// Vertices stand before edges.
-fn vertex_allowed(edges: &Vec<Edge>) -> bool
-    ensures { result ≡ no_edges edges.now.items }
+// The vertices, and then the edges, up to the bracket that ends the lane; none if they are no lane's.
+fn lane_lists(heap: Global, lexer: &mut Lexer) -> Result<Option<Lists>, AllocError>
+    ensures { IfOk result (λ o. parsed (option_map lists_content o) (ahead lexer.new) ≡ lists_in [] [] (ahead lexer.old)) }
 {
-    edges.is_empty()
-}
-
-// Adds the vertices and edges up to the bracket that ends the lane; false if they are no lane's.
-fn fill(
-    lexer: &mut Lexer,
-    vertices: &mut Vec<Vertex>,
-    edges: &mut Vec<Edge>,
-) -> Result<bool, AllocError>
-    ensures { IfOk result (λ ends. filled ends vertices.new.items edges.new.items (ahead lexer.new) ≡ lists_in vertices.old.items edges.old.items (ahead lexer.old)) }
-{
-    loop {
-        let Some(part) = next_part(lexer) else {
-            return Ok(false);
-        };
-        match part {
-            Part::End => return Ok(true),
-            Part::Vertex(vertex) => {
-                if !vertex_allowed(edges) {
-                    return Ok(false);
+    let mut vertices = Vec::new(heap);
+    let mut edges = Vec::new(heap);
+    'part: loop {
+        match next_part(lexer) {
+            Some(Part::Vertex(vertex)) => {
+                if !edges.is_empty() {
+                    return Ok(None);
                 }
                 vertices.push(vertex)?;
             }
-            Part::Edge(edge) => edges.push(edge)?,
+            Some(Part::Edge(edge)) => edges.push(edge)?,
+            Some(Part::End) => return Ok(Some(Lists { vertices, edges })),
+            None => return Ok(None),
         }
     }
 }
@@ -118,11 +113,9 @@ pub fn lane(heap: Global, lexer: &mut Lexer) -> Result<Option<Lane>, AllocError>
     let Some(head) = lane_head(lexer) else {
         return Ok(None);
     };
-    let mut vertices = Vec::new(heap);
-    let mut edges = Vec::new(heap);
-    if !fill(lexer, &mut vertices, &mut edges)? {
+    let Some(Lists { vertices, edges }) = lane_lists(heap, lexer)? else {
         return Ok(None);
-    }
+    };
     Ok(Some(Lane {
         domain: head.domain,
         rest: head.rest,

@@ -10,7 +10,7 @@ mod reader;
 mod signs;
 mod values;
 
-pub use faults::{Fault, Layer};
-pub use parts::kind_of;
-pub use reader::{Reader, Reading};
-pub use values::{Edge, Form, Lane, Policy, Share, Submission, Vertex};
+pub use faults::{Fault, FaultKind, Layer};
+pub use patterns::setting::{EdgeSetting, VertexSetting};
+pub use reader::{ReadError, Reader};
+pub use values::{Form, Lane, Policy, Share, Submission};

@@ -17,6 +17,7 @@ use tokens::Lexer;
 fn body(lexer: &mut Lexer, word: &[u8]) -> Option<Form>
     ensures { parsed (option_map content result) (ahead lexer.new) ≡ body_in word.now (ahead lexer.old) }
 {
+    // One test after another, since the proof of a `match` on these six words does not close.
     if same(word, b"controller") {
         Some(Form::Controller(policy(lexer)?))
     } else if same(word, b"open") {
@@ -55,12 +56,9 @@ fn form(heap: Global, lexer: &mut Lexer) -> Result<Option<Form>, AllocError>
     let Some(word) = heading(lexer) else {
         return Ok(None);
     };
-    if !same(word, b"lane") {
-        return Ok(closed_form(lexer, word));
-    }
-    match lane(heap, lexer)? {
-        Some(lane) => Ok(Some(Form::Lane(lane))),
-        None => Ok(None),
+    match word {
+        b"lane" => Ok(lane(heap, lexer)?.map(Form::Lane)),
+        _ => Ok(closed_form(lexer, word)),
     }
 }
 

@@ -3,12 +3,13 @@ ghost use Rattle.std.specs.Prelude.{◌≡◌};
 ghost use Rattle.std.specs.Option.{option_map};
 ghost use Rattle.std.specs.Str.{bytes_eq};
 ghost use Rattle.forms.specs.Signs.{ahead, parsed};
-ghost use Rattle.forms.specs.Parts.{open_in, close_in, number_in, word_in, name_in, kind_of_letter, kind_of_word, kind_in, field_in};
+ghost use Rattle.forms.specs.Parts.{open_in, close_in, number_in, word_in, name_in, kind_of_word, kind_in, field_in};
 
 use crate::signs::next;
 use interface::Kind;
 use tokens::{Lexer, Token};
 
+// The equality of words by which the forms are defined.
 pub fn same(a: &[u8], b: &[u8]) -> bool
     ensures { result ≡ bytes_eq a.now b.now }
 {
@@ -18,19 +19,13 @@ pub fn same(a: &[u8], b: &[u8]) -> bool
 pub fn open(lexer: &mut Lexer) -> Option<()>
     ensures { parsed result (ahead lexer.new) ≡ open_in (ahead lexer.old) }
 {
-    match next(lexer) {
-        Some(Token::Open(_)) => Some(()),
-        _ => None,
-    }
+    matches!(next(lexer), Some(Token::Open(_))).then_some(())
 }
 
 pub fn close(lexer: &mut Lexer) -> Option<()>
     ensures { parsed result (ahead lexer.new) ≡ close_in (ahead lexer.old) }
 {
-    match next(lexer) {
-        Some(Token::Close(_)) => Some(()),
-        _ => None,
-    }
+    matches!(next(lexer), Some(Token::Close(_))).then_some(())
 }
 
 pub fn number(lexer: &mut Lexer) -> Option<u64>
@@ -56,25 +51,15 @@ pub fn name(lexer: &mut Lexer, wanted: &[u8]) -> Option<()>
     ensures { parsed result (ahead lexer.new) ≡ name_in wanted.now (ahead lexer.old) }
 {
     let word = word(lexer)?;
-    if same(word, wanted) { Some(()) } else { None }
+    same(word, wanted).then_some(())
 }
 
-// The kind that a letter names.
-pub fn kind_of(letter: char) -> Option<Kind>
-    ensures { result ≡ kind_of_letter letter }
-{
-    match letter {
-        'R' => Some(Kind::Read),
-        'W' => Some(Kind::Write),
-        _ => None,
-    }
-}
-
+// A word of one letter, so more than a conversion of its bytes.
 fn kind_of_word(word: &[u8]) -> Option<Kind>
     ensures { result ≡ kind_of_word word.now }
 {
     match word {
-        [letter] => kind_of(char::from(*letter)),
+        [letter] => Kind::try_from(char::from(*letter)).ok(),
         _ => None,
     }
 }

@@ -1,22 +1,40 @@
 // The reader: the next line's form, or its fault.
-ghost use Rattle.std.specs.Prelude.{◌≡◌, ◌≤◌, length, take, IfOk, nat_lt};
+ghost use Rattle.std.specs.Prelude.{◌≡◌, ◌≤◌, length, take};
+ghost use Rattle.std.specs.List.{prefix_len};
 ghost use Rattle.forms.specs.Forms.{content};
-ghost use Rattle.forms.specs.Lines.{line_end, line_after, past_end, in_place, read, line_read, place, next_read, next_place, begun, at_first, too_long, opened};
-ghost use Rattle.forms.specs.Faults.{longest};
+ghost use Rattle.forms.specs.Lines.{in_line, line_end, line_after, past_end, in_place, IsRead, one_line, line_read, next_read, next_place, begun};
 ghost use Rattle.forms.specs.Spelling.{ReadsBack};
+ghost use Rattle.forms.specs.declared.reader.ReadError.TheVariants.{Fault as FaultOf, Memory};
 
-use crate::faults::Fault;
+use crate::faults::{Fault, LONGEST};
 use crate::lines::line_form;
 use crate::signs::token_fault;
 use crate::values::Form;
 use std::alloc::{AllocError, Global};
+use std::marker::Model;
 
-// What a line gives; End where there is no more line.
-#[derive(Drop)]
-pub enum Reading {
-    Form(Form),
+// Why a line gives no form.
+#[derive(Clone, Copy, PartialEq, Eq, Debug)]
+pub enum ReadError {
     Fault(Fault),
-    End,
+    // memory ran out, so that the line is not read
+    Memory(AllocError),
+}
+
+impl From<Fault> for ReadError {
+    ghost from_gives = { λ fault error. error ≡ FaultOf fault };
+
+    fn from(fault: Fault) -> ReadError {
+        ReadError::Fault(fault)
+    }
+}
+
+impl From<AllocError> for ReadError {
+    ghost from_gives = { λ memory error. error ≡ Memory memory };
+
+    fn from(memory: AllocError) -> ReadError {
+        ReadError::Memory(memory)
+    }
 }
 
 // A text, and where its next line begins.
@@ -26,23 +44,20 @@ pub struct Reader<'a> {
     at: usize,
 }
 
-const LONGEST: usize = 65_536;
+impl<'a> Model for Reader<'a> {
+    ghost use Rattle.forms.specs.Lines.{Place, placed_at};
 
-fn too_long(text: &[u8]) -> bool
-    ensures { result ≡ nat_lt longest (length text.now) }
-{
-    text.len() > LONGEST
+    ghost Value = { Place };
+
+    ghost view = { λ r. placed_at r.text.now r.at };
 }
 
-// Where the line ends that begins at a place.
-fn end_of_line(text: &[u8], at: usize) -> usize
-    ensures { result ≡ line_end text.now at }
+// How long a line is that a text begins with.
+fn line_length(text: &[u8]) -> usize
+    ensures length { result ≡ prefix_len in_line text.now }
+    ensures within { result ≤ length text.now }
 {
-    let mut end = at;
-    while end < text.len() && text[end] != b'\n' {
-        end += 1;
-    }
-    end
+    text.iter().take_while(|byte| **byte != b'\n').count()
 }
 
 fn after_line(text: &[u8], end: usize) -> usize
@@ -55,14 +70,7 @@ fn front(text: &[u8], end: usize) -> &[u8]
     requires { end ≤ length text.now }
     ensures { result.now ≡ take end text.now }
 {
-    &text[0..end]
-}
-
-// Whether no line begins at a place. An empty text has one line, which is blank.
-fn past_end(text: &[u8], at: usize) -> bool
-    ensures { result ≡ past_end text.now at }
-{
-    at >= text.len() && at > 0
+    &text[..end]
 }
 
 // A controller form stands in the first line, and there only.
@@ -75,47 +83,63 @@ fn stands_right(form: &Form, line: usize) -> bool
     }
 }
 
-// The line that begins at a place and goes to the end of the text.
-fn read_line(heap: Global, text: &[u8], line: usize) -> Result<Reading, AllocError>
-    ensures { IfOk result (λ x. read x ≡ line_read text.now line) }
+// The form of the line that begins at a place and goes to the end of the text.
+fn read_line(heap: Global, text: &[u8], line: usize) -> Result<Form, ReadError>
+    ensures { IsRead (one_line result) (line_read text.now line) }
 {
     if let Some(fault) = token_fault(text, line) {
-        return Ok(Reading::Fault(Fault::token(fault)));
+        return Err(Fault::from(fault).into());
     }
-    let fault = Fault::form(line);
-    let Some(form) = line_form(heap, text, line)? else {
-        return Ok(Reading::Fault(fault));
-    };
-    if !stands_right(&form, line) {
-        return Ok(Reading::Fault(fault));
+    match line_form(heap, text, line)? {
+        Some(form) if stands_right(&form, line) => Ok(form),
+        _ => Err(Fault::form(line).into()),
     }
-    Ok(Reading::Form(form))
 }
 
 impl<'a> Reader<'a> {
     // Begins at the first line of a text that is not too long. A line that spells a form reads as that form.
+    #[tactic(auto, using(crate::proofs::Spelling::reads_back))]
     pub fn new(text: &'a [u8]) -> Result<Reader<'a>, Fault>
-        ensures value { opened result ≡ begun text.now }
+        ensures value { result ≡ begun text.now }
         ensures law { ReadsBack }
     {
-        if too_long(text) {
+        if text.len() > LONGEST {
             return Err(Fault::length());
         }
         Ok(Reader { text, at: 0 })
     }
 
-    // Reads the next line.
-    pub fn next(&mut self, heap: Global) -> Result<Reading, AllocError>
-        ensures answer { IfOk result (λ x. read x ≡ next_read (place self.old)) }
-        ensures after { place self.new ≡ next_place (place self.old) }
+    // Whether no line is left. An empty text has one line, which is blank.
+    fn past_end(&self) -> bool
+        ensures { result ≡ past_end self.now.text self.now.at }
     {
-        let text = self.text;
-        let line = self.at;
-        if past_end(text, line) {
-            return Ok(Reading::End);
+        self.at >= self.text.len() && self.at > 0
+    }
+
+    // Where the next line ends.
+    fn end_of_line(&self) -> usize
+        ensures end { result ≡ line_end self.now.text self.now.at }
+        ensures within { self.now.at ≤ length self.now.text → result ≤ length self.now.text }
+    {
+        match self.text.get(self.at..) {
+            Some(rest) => self.at + line_length(rest),
+            None => self.at,
         }
-        let end = end_of_line(text, line);
-        self.at = after_line(text, end);
-        read_line(heap, front(text, end), line)
+    }
+
+    // Reads the next line, if there is one.
+    #[tactic(auto, using(crate::proofs::Endings::not_past))]
+    pub fn next(&mut self, heap: Global) -> Result<Option<Form>, ReadError>
+        ensures answer { IsRead result (next_read self.old) }
+        ensures after { self.new ≡ next_place self.old }
+    {
+        if self.past_end() {
+            return Ok(None);
+        }
+        let line = self.at;
+        let end = self.end_of_line();
+        self.at = after_line(self.text, end);
+        let form = read_line(heap, front(self.text, end), line)?;
+        Ok(Some(form))
     }
 }

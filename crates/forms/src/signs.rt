@@ -11,13 +11,10 @@ pub fn token_fault(text: &[u8], at: usize) -> Option<Fault>
     ensures { result ≡ (scanned (started text.now at)).fault }
 {
     let mut lexer = Lexer::starting_at(text, at);
-    loop {
+    'token: loop {
         match lexer.next() {
-            Ok(token) => {
-                if !token.is_some() {
-                    return None;
-                }
-            }
+            Ok(Some(_)) => {}
+            Ok(None) => return None,
             Err(fault) => return Some(fault),
         }
     }
@@ -27,8 +24,5 @@ pub fn token_fault(text: &[u8], at: usize) -> Option<Fault>
 pub fn next<'a>(lexer: &mut Lexer<'a>) -> Option<Token<'a>>
     ensures { parsed (option_map token_sign result) (ahead lexer.new) ≡ uncons (ahead lexer.old) }
 {
-    match lexer.next() {
-        Ok(token) => token,
-        Err(_) => None,
-    }
+    lexer.next().ok().flatten()
 }

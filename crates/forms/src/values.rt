@@ -1,5 +1,6 @@
 // What a form says. Its numbers are at most 10^18; whether they make sense is for the calls to say.
 use interface::Kind;
+use patterns::setting::{EdgeSetting, VertexSetting};
 
 // The controller that a run is over.
 #[derive(Clone, Copy)]
@@ -15,25 +16,12 @@ pub struct Share {
     pub slots: u64,
 }
 
-#[derive(Clone, Copy)]
-pub struct Vertex {
-    pub bank: u64,
-    pub kind: Kind,
-}
-
-#[derive(Clone, Copy)]
-pub struct Edge {
-    pub source: u64,
-    pub target: u64,
-    pub weight: u64,
-}
-
 #[derive(Drop)]
 pub struct Lane {
     pub domain: u64,
     pub rest: u64,
-    pub vertices: Vec<Vertex>,
-    pub edges: Vec<Edge>,
+    pub vertices: Vec<VertexSetting>,
+    pub edges: Vec<EdgeSetting>,
 }
 
 #[derive(Clone, Copy)]

@@ -1,6 +1,7 @@
 -- Issued entries beside a history of issues: when their Dones come.
-use Rattle.std.proofs.Common.{◌≡◌, ℕ, zero, suc, ◌+◌, ◌-◌, ◌<◌, ◌≤◌, Bool, true, false, cond, ◌&&◌, ◌||◌, eqb, leb, List, [], ◌∷◌, ◌++◌, map, Some, sym, refl, ap, ◌∙◌, arith, lit≤, eq-eqb, ne_eqb, eqb-true, le-leb, leb-false, leb-true}
+use Rattle.std.proofs.Common.{◌≡◌, ℕ, zero, suc, ◌+◌, ◌-◌, ◌<◌, ◌≤◌, Bool, true, false, cond, ◌&&◌, ◌||◌, eqb, leb, List, [], ◌∷◌, ◌++◌, map, Some, Option, None, sym, refl, ap, ◌∙◌, arith, lit≤, eq-eqb, ne_eqb, eqb-true, le-leb, leb-false, leb-true}
 use borrow.Author.Tests.{both_ways, eqb-false}
+use Rattle.std.specs.Option.{is_some}
 use Rattle.interface.specs.Meaning.{any}
 use Rattle.interface.specs.Lawful.{ends}
 use Rattle.interface.specs.History.{Occurrence, Issuance, issued_in, ended_in}
@@ -12,20 +13,18 @@ use Rattle.interface.specs.declared.Event.{Event}
 use Rattle.interface.specs.declared.Event.TheVariants.{Issue, Done}
 use Rattle.interface.proofs.Bools.{or_false, or_left, eqb_comm, same}
 use Rattle.interface.proofs.Slots.{Apart, Traced, marked, marked_has, done_more}
-use Rattle.held.specs.declared.entries.Stage.{Stage}
-use Rattle.held.specs.declared.entries.Stage.TheVariants.{Waiting, Issued}
 use Rattle.held.specs.declared.entries.Entry.{Entry}
-use Rattle.held.specs.Entries.{later, sooner, expired, expired_stage, done_delay, key, has, dones, anyone, next_of, issue_next, issued_stage, is_issued, new_entry}
+use Rattle.held.specs.Entries.{later, sooner, expired, run_out, done_delay, key, has, dones, anyone, next_of, issue_next, is_issued, new_entry}
 use Rattle.held.specs.Delays.{dones_at, dones_before}
 
 -- ---- the Dones of a step
 
-pub expired_issued_at : (s : Stage) → expired_stage s ≡ true → issued_stage s ≡ true
-expired_issued_at Waiting e = e
-expired_issued_at (Issued n) e = refl
+pub expired_issued_at : (s : Option ℕ) → run_out s ≡ true → is_some s ≡ true
+expired_issued_at None e = e
+expired_issued_at (Some n) e = refl
 
 pub expired_issued : (h : Entry) → expired h ≡ true → is_issued h ≡ true
-expired_issued h e = expired_issued_at h.stage e
+expired_issued h e = expired_issued_at h.until_done e
 
 pub delay_not : (k : Kind) → eqb (done_delay k) 0 ≡ false
 delay_not Read = refl
@@ -54,15 +53,15 @@ issued_append t m (Done n ∷ es) = issued_append t m es
 pub less_one : (m : ℕ) → suc m - 1 ≡ m
 less_one m = omega arith
 
-abbrev pub counting : Stage → ℕ → List (ℕ × ℕ) → List (ℕ × ℕ)
-counting Waiting n fs = fs
-counting (Issued zero) n fs = fs
-counting (Issued (suc m)) n fs = (n, m) ∷ fs
+abbrev pub counting : Option ℕ → ℕ → List (ℕ × ℕ) → List (ℕ × ℕ)
+counting None n fs = fs
+counting (Some zero) n fs = fs
+counting (Some (suc m)) n fs = (n, m) ∷ fs
 
 -- the slots that are issued, each with the steps before that of its Done
 abbrev pub countdowns : List Entry → List (ℕ × ℕ)
 countdowns [] = []
-countdowns (h ∷ hs) = counting h.stage h.request.slot (countdowns hs)
+countdowns (h ∷ hs) = counting h.until_done h.request.slot (countdowns hs)
 
 abbrev pub outstanding : ℕ → List Issuance → List (ℕ × ℕ)
 outstanding n [] = []
@@ -84,27 +83,27 @@ pub end_one : (n k : ℕ) (ds : List Event) (zs : List Occurrence) (b : Bool) �
 end_one n k ds zs true e = ap (λ l. record { slot = k; at = n } ∷ l) e
 end_one n k ds zs false e = e
 
-pub ended_at_one : (n k : ℕ) (s : Stage) (ds : List Event) (fs : List (ℕ × ℕ)) → expired_stage s ≡ false → ended_in n ds ≡ finishing n fs → ended_in n (cond (expired_stage (sooner s)) (Done k ∷ ds) ds) ≡ finishing n (counting s k fs)
-ended_at_one n k Waiting ds fs l e = e
-ended_at_one n k (Issued zero) ds fs l e = absurd (both_ways true l refl)
-ended_at_one n k (Issued (suc m)) ds fs l e = ap (λ j. ended_in n (cond (eqb j 0) (Done k ∷ ds) ds)) (less_one m) ∙ end_one n k ds (finishing n fs) (eqb m 0) e
+pub ended_at_one : (n k : ℕ) (s : Option ℕ) (ds : List Event) (fs : List (ℕ × ℕ)) → run_out s ≡ false → ended_in n ds ≡ finishing n fs → ended_in n (cond (run_out (sooner s)) (Done k ∷ ds) ds) ≡ finishing n (counting s k fs)
+ended_at_one n k None ds fs l e = e
+ended_at_one n k (Some zero) ds fs l e = absurd (both_ways true l refl)
+ended_at_one n k (Some (suc m)) ds fs l e = ap (λ j. ended_in n (cond (eqb j 0) (Done k ∷ ds) ds)) (less_one m) ∙ end_one n k ds (finishing n fs) (eqb m 0) e
 
 pub ended_step : (n : ℕ) (hs : List Entry) → NoneExpired hs → ended_in n (dones (map later hs)) ≡ finishing n (countdowns hs)
 ended_step n [] l = refl
-ended_step n (h ∷ hs) l = ended_at_one n h.request.slot h.stage (dones (map later hs)) (countdowns hs) l.0 (ended_step n hs l.1)
+ended_step n (h ∷ hs) l = ended_at_one n h.request.slot h.until_done (dones (map later hs)) (countdowns hs) l.0 (ended_step n hs l.1)
 
-pub counting_low : (m k : ℕ) (fs : List (ℕ × ℕ)) → counting (Issued m) k fs ≡ cond (eqb m 0) fs ((k, m - 1) ∷ fs)
+pub counting_low : (m k : ℕ) (fs : List (ℕ × ℕ)) → counting (Some m) k fs ≡ cond (eqb m 0) fs ((k, m - 1) ∷ fs)
 counting_low zero k fs = refl
 counting_low (suc m) k fs = ap (λ j. (k, j) ∷ fs) (sym (less_one m)) ∙ ap (λ b. cond b fs ((k, suc m - 1) ∷ fs)) (sym (ne_eqb (suc m) 0 (λ e. omega arith)))
 
-pub later_one : (k : ℕ) (s : Stage) (gs fs : List (ℕ × ℕ)) → expired_stage s ≡ false → gs ≡ lowered fs → counting (sooner s) k gs ≡ lowered (counting s k fs)
-later_one k Waiting gs fs l e = e
-later_one k (Issued zero) gs fs l e = absurd (both_ways true l refl)
-later_one k (Issued (suc m)) gs fs l e = ap (λ j. counting (Issued j) k gs) (less_one m) ∙ counting_low m k gs ∙ ap (λ g. cond (eqb m 0) g ((k, m - 1) ∷ g)) e
+pub later_one : (k : ℕ) (s : Option ℕ) (gs fs : List (ℕ × ℕ)) → run_out s ≡ false → gs ≡ lowered fs → counting (sooner s) k gs ≡ lowered (counting s k fs)
+later_one k None gs fs l e = e
+later_one k (Some zero) gs fs l e = absurd (both_ways true l refl)
+later_one k (Some (suc m)) gs fs l e = ap (λ j. counting (Some j) k gs) (less_one m) ∙ counting_low m k gs ∙ ap (λ g. cond (eqb m 0) g ((k, m - 1) ∷ g)) e
 
 pub countdowns_later : (hs : List Entry) → NoneExpired hs → countdowns (map later hs) ≡ lowered (countdowns hs)
 countdowns_later [] l = refl
-countdowns_later (h ∷ hs) l = later_one h.request.slot h.stage (countdowns (map later hs)) (countdowns hs) l.0 (countdowns_later hs l.1)
+countdowns_later (h ∷ hs) l = later_one h.request.slot h.until_done (countdowns (map later hs)) (countdowns hs) l.0 (countdowns_later hs l.1)
 
 pub finishing_one : (n f k : ℕ) (fs : List (ℕ × ℕ)) (ls : List Occurrence) (b c : Bool) → leb n f ≡ b → eqb f n ≡ c → finishing n fs ≡ ls → finishing n (cond b ((k, f - n) ∷ fs) fs) ≡ cond c (record { slot = k; at = n } ∷ ls) ls
 finishing_one n f k fs ls true true e g i =
@@ -140,15 +139,15 @@ lowered_outstanding n (s ∷ ss) = lower_one n (s.at + done_delay s.request.kind
 
 abbrev pub AllWaiting : List Entry → Type 0
 AllWaiting [] = Unit {0}
-AllWaiting (h ∷ hs) = (h.stage ≡ Waiting) × AllWaiting hs
+AllWaiting (h ∷ hs) = (h.until_done ≡ None) × AllWaiting hs
 
-abbrev pub After : Stage → List Entry → Type 0
-After Waiting hs = AllWaiting hs
-After (Issued n) hs = Unit {0}
+abbrev pub After : Option ℕ → List Entry → Type 0
+After None hs = AllWaiting hs
+After (Some n) hs = Unit {0}
 
 abbrev pub IssuedFirst : List Entry → Type 0
 IssuedFirst [] = Unit {0}
-IssuedFirst (h ∷ hs) = After h.stage hs × IssuedFirst hs
+IssuedFirst (h ∷ hs) = After h.until_done hs × IssuedFirst hs
 
 pub waiting_countdowns : (hs : List Entry) → AllWaiting hs → countdowns hs ≡ []
 waiting_countdowns [] a = refl
@@ -158,25 +157,25 @@ pub waiting_later_all : (hs : List Entry) → AllWaiting hs → AllWaiting (map 
 waiting_later_all [] a = tt
 waiting_later_all (h ∷ hs) a = (ap sooner a.0, waiting_later_all hs a.1)
 
-pub after_later : (s : Stage) (hs : List Entry) → After s hs → After (sooner s) (map later hs)
-after_later Waiting hs a = waiting_later_all hs a
-after_later (Issued n) hs a = tt
+pub after_later : (s : Option ℕ) (hs : List Entry) → After s hs → After (sooner s) (map later hs)
+after_later None hs a = waiting_later_all hs a
+after_later (Some n) hs a = tt
 
 pub ordered_later : (hs : List Entry) → IssuedFirst hs → IssuedFirst (map later hs)
 ordered_later [] o = tt
-ordered_later (h ∷ hs) o = (after_later h.stage hs o.0, ordered_later hs o.1)
+ordered_later (h ∷ hs) o = (after_later h.until_done hs o.0, ordered_later hs o.1)
 
 pub waiting_append : (hs : List Entry) (n : ℕ) (q : Request) → AllWaiting hs → AllWaiting (hs ++ (new_entry n q ∷ []))
 waiting_append [] n q a = (refl, tt)
 waiting_append (h ∷ hs) n q a = (a.0, waiting_append hs n q a.1)
 
-pub after_append : (s : Stage) (hs : List Entry) (n : ℕ) (q : Request) → After s hs → After s (hs ++ (new_entry n q ∷ []))
-after_append Waiting hs n q a = waiting_append hs n q a
-after_append (Issued m) hs n q a = tt
+pub after_append : (s : Option ℕ) (hs : List Entry) (n : ℕ) (q : Request) → After s hs → After s (hs ++ (new_entry n q ∷ []))
+after_append None hs n q a = waiting_append hs n q a
+after_append (Some m) hs n q a = tt
 
 pub ordered_append : (hs : List Entry) (n : ℕ) (q : Request) → IssuedFirst hs → IssuedFirst (hs ++ (new_entry n q ∷ []))
 ordered_append [] n q o = (tt, tt)
-ordered_append (h ∷ hs) n q o = (after_append h.stage hs n q o.0, ordered_append hs n q o.1)
+ordered_append (h ∷ hs) n q o = (after_append h.until_done hs n q o.0, ordered_append hs n q o.1)
 
 pub waiting_dropped_at : (m : ℕ) (h : Entry) (hs : List Entry) (b : Bool) → AllWaiting (h ∷ hs) → AllWaiting (dropped key m hs) → AllWaiting (cond b hs (h ∷ dropped key m hs))
 waiting_dropped_at m h hs true a i = a.1
@@ -186,59 +185,59 @@ pub waiting_dropped : (m : ℕ) (hs : List Entry) → AllWaiting hs → AllWaiti
 waiting_dropped m [] a = tt
 waiting_dropped m (h ∷ hs) a = waiting_dropped_at m h hs (eqb h.request.slot m) a (waiting_dropped m hs a.1)
 
-pub after_dropped : (s : Stage) (m : ℕ) (hs : List Entry) → After s hs → After s (dropped key m hs)
-after_dropped Waiting m hs a = waiting_dropped m hs a
-after_dropped (Issued n) m hs a = tt
+pub after_dropped : (s : Option ℕ) (m : ℕ) (hs : List Entry) → After s hs → After s (dropped key m hs)
+after_dropped None m hs a = waiting_dropped m hs a
+after_dropped (Some n) m hs a = tt
 
 pub ordered_dropped_at : (m : ℕ) (h : Entry) (hs : List Entry) (b : Bool) → IssuedFirst (h ∷ hs) → IssuedFirst (dropped key m hs) → IssuedFirst (cond b hs (h ∷ dropped key m hs))
 ordered_dropped_at m h hs true o i = o.1
-ordered_dropped_at m h hs false o i = (after_dropped h.stage m hs o.0, i)
+ordered_dropped_at m h hs false o i = (after_dropped h.until_done m hs o.0, i)
 
 pub ordered_dropped : (m : ℕ) (hs : List Entry) → IssuedFirst hs → IssuedFirst (dropped key m hs)
 ordered_dropped m [] o = tt
 ordered_dropped m (h ∷ hs) o = ordered_dropped_at m h hs (eqb h.request.slot m) o (ordered_dropped m hs o.1)
 
-pub ordered_issued_at : (q : Request) (s : Stage) (l : ℕ) (hs : List Entry) → IssuedFirst (record { request = q; stage = s; left = l } ∷ hs) → IssuedFirst (issue_next anyone hs) → IssuedFirst (issue_next anyone (record { request = q; stage = s; left = l } ∷ hs))
-ordered_issued_at q Waiting l hs o i = (tt, o.1)
-ordered_issued_at q (Issued n) l hs o i = (tt, i)
+pub ordered_issued_at : (q : Request) (s : Option ℕ) (l : ℕ) (hs : List Entry) → IssuedFirst (record { request = q; until_done = s; left = l } ∷ hs) → IssuedFirst (issue_next anyone hs) → IssuedFirst (issue_next anyone (record { request = q; until_done = s; left = l } ∷ hs))
+ordered_issued_at q None l hs o i = (tt, o.1)
+ordered_issued_at q (Some n) l hs o i = (tt, i)
 
 pub ordered_issued : (hs : List Entry) → IssuedFirst hs → IssuedFirst (issue_next anyone hs)
 ordered_issued [] o = tt
-ordered_issued (h ∷ hs) o = ordered_issued_at h.request h.stage h.left hs o (ordered_issued hs o.1)
+ordered_issued (h ∷ hs) o = ordered_issued_at h.request h.until_done h.left hs o (ordered_issued hs o.1)
 
-pub counting_delay : (k : Kind) (n : ℕ) → counting (Issued (done_delay k)) n [] ≡ (n, done_delay k - 1) ∷ []
+pub counting_delay : (k : Kind) (n : ℕ) → counting (Some (done_delay k)) n [] ≡ (n, done_delay k - 1) ∷ []
 counting_delay k n = counting_low (done_delay k) n [] ∙ ap (λ b. cond b [] ((n, done_delay k - 1) ∷ [])) (delay_not k)
 
-pub countdowns_issued_at : (x : Entry) (q : Request) (s : Stage) (l : ℕ) (hs : List Entry) → After s hs
+pub countdowns_issued_at : (x : Entry) (q : Request) (s : Option ℕ) (l : ℕ) (hs : List Entry) → After s hs
     → (next_of anyone hs ≡ Some x → countdowns (issue_next anyone hs) ≡ countdowns hs ++ ((x.request.slot, done_delay x.request.kind - 1) ∷ []))
-    → next_of anyone (record { request = q; stage = s; left = l } ∷ hs) ≡ Some x
-    → countdowns (issue_next anyone (record { request = q; stage = s; left = l } ∷ hs)) ≡ counting s q.slot (countdowns hs) ++ ((x.request.slot, done_delay x.request.kind - 1) ∷ [])
-countdowns_issued_at x q Waiting l hs a ih e =
-    let z : ◌≡◌ {A = Entry} (record { request = q; stage = Waiting; left = l }) x = cc in
+    → next_of anyone (record { request = q; until_done = s; left = l } ∷ hs) ≡ Some x
+    → countdowns (issue_next anyone (record { request = q; until_done = s; left = l } ∷ hs)) ≡ counting s q.slot (countdowns hs) ++ ((x.request.slot, done_delay x.request.kind - 1) ∷ [])
+countdowns_issued_at x q None l hs a ih e =
+    let z : ◌≡◌ {A = Entry} (record { request = q; until_done = None; left = l }) x = cc in
     let w = waiting_countdowns hs a in
-    ap (counting (Issued (done_delay q.kind)) q.slot) w ∙ counting_delay q.kind q.slot
+    ap (counting (Some (done_delay q.kind)) q.slot) w ∙ counting_delay q.kind q.slot
     ∙ ap {B = List (ℕ × ℕ)} (λ (y : Entry). (y.request.slot, done_delay y.request.kind - 1) ∷ []) z ∙ ap (λ fs. fs ++ ((x.request.slot, done_delay x.request.kind - 1) ∷ [])) (sym w)
-countdowns_issued_at x q (Issued zero) l hs a ih e = ih e
-countdowns_issued_at x q (Issued (suc m)) l hs a ih e = ap (λ fs. (q.slot, m) ∷ fs) (ih e)
+countdowns_issued_at x q (Some zero) l hs a ih e = ih e
+countdowns_issued_at x q (Some (suc m)) l hs a ih e = ap (λ fs. (q.slot, m) ∷ fs) (ih e)
 
 pub countdowns_issued : (x : Entry) (hs : List Entry) → IssuedFirst hs → next_of anyone hs ≡ Some x → countdowns (issue_next anyone hs) ≡ countdowns hs ++ ((x.request.slot, done_delay x.request.kind - 1) ∷ [])
 countdowns_issued x [] o e = let z : ◌≡◌ {A = ℕ} 0 1 = cc in absurd (omega arith)
-countdowns_issued x (h ∷ hs) o e = countdowns_issued_at x h.request h.stage h.left hs o.0 (countdowns_issued x hs o.1) e
+countdowns_issued x (h ∷ hs) o e = countdowns_issued_at x h.request h.until_done h.left hs o.0 (countdowns_issued x hs o.1) e
 
 pub countdowns_append : (hs : List Entry) (n : ℕ) (q : Request) → countdowns (hs ++ (new_entry n q ∷ [])) ≡ countdowns hs
 countdowns_append [] n q = refl
-countdowns_append (h ∷ hs) n q = ap (counting h.stage h.request.slot) (countdowns_append hs n q)
+countdowns_append (h ∷ hs) n q = ap (counting h.until_done h.request.slot) (countdowns_append hs n q)
 
-pub expired_counting : (s : Stage) (k : ℕ) (fs : List (ℕ × ℕ)) → expired_stage s ≡ true → fs ≡ counting s k fs
-expired_counting Waiting k fs e = refl
-expired_counting (Issued zero) k fs e = refl
-expired_counting (Issued (suc m)) k fs e = let z = eqb-true (suc m) 0 e in absurd (omega arith)
+pub expired_counting : (s : Option ℕ) (k : ℕ) (fs : List (ℕ × ℕ)) → run_out s ≡ true → fs ≡ counting s k fs
+expired_counting None k fs e = refl
+expired_counting (Some zero) k fs e = refl
+expired_counting (Some (suc m)) k fs e = let z = eqb-true (suc m) 0 e in absurd (omega arith)
 
 pub countdowns_dropped_at : (n : ℕ) (h : Entry) (hs : List Entry) (b d : Bool) → eqb h.request.slot n ≡ b → expired h ≡ d → any (has h.request.slot) hs ≡ false → ((b && d) || marked key expired n hs) ≡ true
-    → (marked key expired n hs ≡ true → countdowns (dropped key n hs) ≡ countdowns hs) → countdowns (cond b hs (h ∷ dropped key n hs)) ≡ counting h.stage h.request.slot (countdowns hs)
-countdowns_dropped_at n h hs true true e l a m ih = expired_counting h.stage h.request.slot (countdowns hs) l
+    → (marked key expired n hs ≡ true → countdowns (dropped key n hs) ≡ countdowns hs) → countdowns (cond b hs (h ∷ dropped key n hs)) ≡ counting h.until_done h.request.slot (countdowns hs)
+countdowns_dropped_at n h hs true true e l a m ih = expired_counting h.until_done h.request.slot (countdowns hs) l
 countdowns_dropped_at n h hs true false e l a m ih = absurd (marked_has key expired n hs (ap (λ j. any (has j) hs) (sym (eqb-true _ _ e)) ∙ a) m)
-countdowns_dropped_at n h hs false d e l a m ih = ap (counting h.stage h.request.slot) (ih m)
+countdowns_dropped_at n h hs false d e l a m ih = ap (counting h.until_done h.request.slot) (ih m)
 
 pub countdowns_dropped : (n : ℕ) (hs : List Entry) → Apart key hs → marked key expired n hs ≡ true → countdowns (dropped key n hs) ≡ countdowns hs
 countdowns_dropped n [] a m = refl

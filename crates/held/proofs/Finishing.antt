@@ -1,5 +1,5 @@
 -- The Dones of a table in step with its issues, whichever class of requests each issue is of.
-use Rattle.std.proofs.Common.{◌≡◌, ℕ, ◌+◌, ◌-◌, Bool, true, false, cond, ◌&&◌, eqb, List, [], ◌∷◌, ◌++◌, map, Some, sym, refl, ap, ◌∙◌, subst, add-one, arith}
+use Rattle.std.proofs.Common.{◌≡◌, ℕ, ◌+◌, ◌-◌, Bool, true, false, cond, ◌&&◌, eqb, List, [], ◌∷◌, ◌++◌, map, Some, Option, None, sym, refl, ap, ◌∙◌, subst, add-one, arith}
 use Rattle.interface.specs.Meaning.{any}
 use Rattle.interface.specs.Lawful.{ends}
 use Rattle.interface.specs.History.{Occurrence, Issuance, issued_in, ended_in}
@@ -7,8 +7,6 @@ use Rattle.interface.specs.declared.Request.{Request}
 use Rattle.interface.specs.declared.Event.{Event}
 use Rattle.interface.specs.declared.Event.TheVariants.{Issue, Done}
 use Rattle.interface.proofs.Slots.{Apart, Traced, traced_dones, traced_append, ends_before}
-use Rattle.held.specs.declared.entries.Stage.{Stage}
-use Rattle.held.specs.declared.entries.Stage.TheVariants.{Waiting, Issued}
 use Rattle.held.specs.declared.entries.Entry.{Entry}
 use Rattle.held.specs.Entries.{later, key, expired, dones, done_delay, issue_next, issued_now, new_entry}
 use Rattle.held.specs.Rows.{Rows, no_rows, with_request, passed, first_out, issue_of}
@@ -19,17 +17,17 @@ use Rattle.held.proofs.Delaying.{delay_not, traced_end, issued_dones, issued_app
 -- an issue makes no Done ready
 pub dones_issued : (k : Request → Bool) (es : List Entry) → dones (issue_next k es) ≡ dones es
 dones_issued k [] = refl
-dones_issued k (e ∷ es) = at e.request e.stage e.left (dones_issued k es)
+dones_issued k (e ∷ es) = at e.request e.until_done e.left (dones_issued k es)
   where
-    at : (q : Request) (s : Stage) (l : ℕ) → dones (issue_next k es) ≡ dones es → dones (issue_next k (record { request = q; stage = s; left = l } ∷ es)) ≡ dones (record { request = q; stage = s; left = l } ∷ es)
-    at q Waiting l i = go (k q)
+    at : (q : Request) (s : Option ℕ) (l : ℕ) → dones (issue_next k es) ≡ dones es → dones (issue_next k (record { request = q; until_done = s; left = l } ∷ es)) ≡ dones (record { request = q; until_done = s; left = l } ∷ es)
+    at q None l i = go (k q)
       where
-        go : (b : Bool) → dones (cond (b && true) (issued_now (record { request = q; stage = Waiting; left = l }) ∷ es) (record { request = q; stage = Waiting; left = l } ∷ issue_next k es)) ≡ dones es
+        go : (b : Bool) → dones (cond (b && true) (issued_now (record { request = q; until_done = None; left = l }) ∷ es) (record { request = q; until_done = None; left = l } ∷ issue_next k es)) ≡ dones es
         go true = ap (λ b. cond b (Done q.slot ∷ dones es) (dones es)) (delay_not q.kind)
         go false = i
-    at q (Issued n) l i = go (k q)
+    at q (Some n) l i = go (k q)
       where
-        go : (b : Bool) → dones (cond (b && false) (issued_now (record { request = q; stage = Issued n; left = l }) ∷ es) (record { request = q; stage = Issued n; left = l } ∷ issue_next k es)) ≡ cond (eqb n 0) (Done q.slot ∷ dones es) (dones es)
+        go : (b : Bool) → dones (cond (b && false) (issued_now (record { request = q; until_done = Some n; left = l }) ∷ es) (record { request = q; until_done = Some n; left = l } ∷ issue_next k es)) ≡ cond (eqb n 0) (Done q.slot ∷ dones es) (dones es)
         go true = ap (λ d. cond (eqb n 0) (Done q.slot ∷ d) d) i
         go false = ap (λ d. cond (eqb n 0) (Done q.slot ∷ d) d) i
 

@@ -1,4 +1,5 @@
 pub mod Stepping
+pub mod Held
 pub mod Spans
 pub mod Delaying
 pub mod Waiting

@@ -1,9 +1,9 @@
 -- What a step does to the held requests, whichever class of them is asked for one to issue.
-use Rattle.std.proofs.Common.{◌≡◌, ℕ, suc, ◌<◌, ◌≤◌, Bool, true, false, cond, ◌&&◌, ◌||◌, eqb, ◌⊎◌, List, [], ◌∷◌, ◌++◌, map, length, get_or, set, Some, None, Option, sym, refl, ap, ◌∙◌, subst, inl, inr, ⊎_elim, append-nil, arith, lit≤, eq-eqb, ne_eqb, eqb-true}
+use Rattle.std.proofs.Common.{◌≡◌, ℕ, suc, ◌≤◌, Bool, true, false, cond, ◌&&◌, ◌||◌, eqb, ◌⊎◌, List, [], ◌∷◌, ◌++◌, map, length, Some, None, Option, sym, refl, ap, ◌∙◌, subst, inl, inr, ⊎_elim, append-nil, arith, lit≤, eq-eqb, ne_eqb, eqb-true}
 use borrow.Author.Tests.{both_ways, eqb-false}
+use Rattle.std.specs.Option.{is_some}
 use Rattle.interface.specs.Meaning.{Held, any}
 use Rattle.interface.specs.Lawful.{issues, ends, aged, Standing, standing, events_of, Proper, Punctual}
-use Rattle.interface.specs.Slots.{place}
 use Rattle.interface.specs.declared.Request.{Request}
 use Rattle.interface.specs.declared.Kind.{Kind}
 use Rattle.interface.specs.declared.Kind.TheVariants.{Read, Write}
@@ -11,21 +11,16 @@ use Rattle.interface.specs.declared.Event.{Event}
 use Rattle.interface.specs.declared.Event.TheVariants.{Issue, Done}
 use Rattle.interface.proofs.Bools.{or_false, or_right, or_left, or_true, same}
 use Rattle.interface.proofs.Slots.{Apart, some_map, apart_map, some_self, events_of_none, events_of_skip, events_of_append, issues_none, proper_none, done_more, ends_before}
-use Rattle.held.specs.declared.entries.Stage.{Stage}
-use Rattle.held.specs.declared.entries.Stage.TheVariants.{Waiting, Issued}
+use Rattle.holder.proofs.Holdings.{length_dones as dones_few}
 use Rattle.held.specs.declared.entries.Entry.{Entry}
 use Rattle.held.specs.Rows.{Rows}
-use Rattle.held.specs.Entries.{later, sooner, expired, expired_stage, issued_now, done_delay, longest_delay, key, has, dones, candidate, next_of, issue_next, issued_stage, reading_of}
-
--- a table with other entries
-abbrev pub with_entries : Rows → List Entry → Rows
-with_entries t es = record { entries = es; events = t.events }
+use Rattle.held.specs.Entries.{later, sooner, expired, run_out, issued_now, done_delay, longest_delay, key, has, dones, candidate, next_of, issue_next, reading_of}
 
 pub rows_path : (a b : Rows) → a.entries ≡ b.entries → a.events ≡ b.events → a ≡ b
 rows_path a b p q = λ i. record { entries = p i; events = q i }
 
-pub entry_path : (a b : Entry) → a.request ≡ b.request → a.stage ≡ b.stage → a.left ≡ b.left → a ≡ b
-entry_path a b p q r = λ i. record { request = p i; stage = q i; left = r i }
+pub entry_path : (a b : Entry) → a.request ≡ b.request → a.until_done ≡ b.until_done → a.left ≡ b.left → a ≡ b
+entry_path a b p q r = λ i. record { request = p i; until_done = q i; left = r i }
 
 some_later : (n : ℕ) (hs : List Entry) → any (has n) (map later hs) ≡ any (has n) hs
 some_later = some_map key later (λ h. refl)
@@ -36,35 +31,6 @@ apart_later = apart_map key later (λ h. refl)
 pub delay_most : (k : Kind) → done_delay k ≤ longest_delay
 delay_most Read = lit≤ tt
 delay_most Write = lit≤ tt
-
--- ---- where the next of a class stands
-
-next_cons : (k : Request → Bool) (x : Entry) (hs : List Entry) (d : Entry) (b : Bool) → cond b 0 (suc (place (candidate k) hs)) < suc (length hs) → (place (candidate k) hs < length hs → next_of k hs ≡ Some (get_or hs (place (candidate k) hs) d))
-    → cond b (Some x) (next_of k hs) ≡ Some (get_or (x ∷ hs) (cond b 0 (suc (place (candidate k) hs))) d)
-next_cons k x hs d true h ih = refl
-next_cons k x hs d false h ih = ih (omega arith)
-
-next_none : (k : Request → Bool) (x : Entry) (hs : List Entry) (b : Bool) → suc (length hs) ≤ cond b 0 (suc (place (candidate k) hs)) → (length hs ≤ place (candidate k) hs → next_of k hs ≡ None) → cond b (Some x) (next_of k hs) ≡ None
-next_none k x hs true h ih = absurd (omega arith)
-next_none k x hs false h ih = ih (omega arith)
-
-issued_cons : (k : Request → Bool) (x : Entry) (hs : List Entry) (d : Entry) (b : Bool) → cond b 0 (suc (place (candidate k) hs)) < suc (length hs)
-    → (place (candidate k) hs < length hs → issue_next k hs ≡ set hs (place (candidate k) hs) (issued_now (get_or hs (place (candidate k) hs) d)))
-    → cond b (issued_now x ∷ hs) (x ∷ issue_next k hs) ≡ set (x ∷ hs) (cond b 0 (suc (place (candidate k) hs))) (issued_now (get_or (x ∷ hs) (cond b 0 (suc (place (candidate k) hs))) d))
-issued_cons k x hs d true h ih = refl
-issued_cons k x hs d false h ih = ap (λ l. x ∷ l) (ih (omega arith))
-
-pub next_there : (k : Request → Bool) (hs : List Entry) (d : Entry) → place (candidate k) hs < length hs → next_of k hs ≡ Some (get_or hs (place (candidate k) hs) d)
-next_there k [] d h = absurd (omega arith)
-next_there k (x ∷ hs) d h = next_cons k x hs d (candidate k x) h (next_there k hs d)
-
-pub next_not : (k : Request → Bool) (hs : List Entry) → length hs ≤ place (candidate k) hs → next_of k hs ≡ None
-next_not k [] h = refl
-next_not k (x ∷ hs) h = next_none k x hs (candidate k x) h (next_not k hs)
-
-pub issued_there : (k : Request → Bool) (hs : List Entry) (d : Entry) → place (candidate k) hs < length hs → issue_next k hs ≡ set hs (place (candidate k) hs) (issued_now (get_or hs (place (candidate k) hs) d))
-issued_there k [] d h = absurd (omega arith)
-issued_there k (x ∷ hs) d h = issued_cons k x hs d (candidate k x) h (issued_there k hs d)
 
 -- ---- an issue keeps the slots
 
@@ -111,15 +77,15 @@ some_issue_append n m (x ∷ es) e =
     let k = or_false (issues n x) _ e in
     ap (λ b. b || any (issues n) (es ++ (Issue m ∷ []))) k.0 ∙ some_issue_append n m es k.1
 
-stage_later : (s : Stage) → issued_stage (sooner s) ≡ issued_stage s
-stage_later Waiting = refl
-stage_later (Issued n) = refl
+stage_later : (s : Option ℕ) → is_some (sooner s) ≡ is_some s
+stage_later None = refl
+stage_later (Some n) = refl
 
 reading_path : (a b : Held) → a.request ≡ b.request → a.issued ≡ b.issued → a.left ≡ b.left → a ≡ b
 reading_path a b p q r = λ i. record { request = p i; issued = q i; left = r i }
 
 aged_later : (es : List Event) (h : Entry) → any (issues h.request.slot) es ≡ false → reading_of (later h) ≡ aged es (reading_of h)
-aged_later es h e = reading_path (reading_of (later h)) (aged es (reading_of h)) refl (stage_later h.stage ∙ sym (or_right _) ∙ ap (λ b. issued_stage h.stage || b) (sym e)) refl
+aged_later es h e = reading_path (reading_of (later h)) (aged es (reading_of h)) refl (stage_later h.until_done ∙ sym (or_right _) ∙ ap (λ b. is_some h.until_done || b) (sym e)) refl
 
 aged_all : (es : List Event) (hs : List Entry) → ((n : ℕ) → any (has n) hs ≡ true → any (issues n) es ≡ false) → map reading_of (map later hs) ≡ map (aged es) (map reading_of hs)
 aged_all es [] e = refl
@@ -127,34 +93,30 @@ aged_all es (h ∷ hs) e =
     ap (λ x. x ∷ map reading_of (map later hs)) (aged_later es h (e h.request.slot (or_left (has h.request.slot h) _ (same h.request.slot))))
     ∙ ap (λ l. aged es (reading_of h) ∷ l) (aged_all es hs (λ n k. e n (or_true (has n h) _ k)))
 
--- the parts of a list at whose head the next of a class is sought
-abbrev AtHead : (Request → Bool) → Request → Stage → ℕ → List Entry → Entry → Type 0
-AtHead k q s l hs h = ((k q ≡ true) × (s ≡ Waiting) × (◌≡◌ {A = Entry} (record { request = q; stage = s; left = l }) h)) ⊎ (next_of k hs ≡ Some h)
-
 -- the next of a class is the first that waits, or one further on
-at_head_by : (k : Request → Bool) (q : Request) (s : Stage) (l : ℕ) (hs : List Entry) (h : Entry) (b : Bool) → k q ≡ b → next_of k (record { request = q; stage = s; left = l } ∷ hs) ≡ Some h
-    → (((k q ≡ true) × (s ≡ Waiting) × (◌≡◌ {A = Entry} (record { request = q; stage = s; left = l }) h)) × (issue_next k (record { request = q; stage = s; left = l } ∷ hs) ≡ issued_now (record { request = q; stage = s; left = l }) ∷ hs))
-    ⊎ ((next_of k hs ≡ Some h) × (issue_next k (record { request = q; stage = s; left = l } ∷ hs) ≡ record { request = q; stage = s; left = l } ∷ issue_next k hs))
-at_head_by k q Waiting l hs h true kb e =
-    let x : Entry = record { request = q; stage = Waiting; left = l } in
+at_head_by : (k : Request → Bool) (q : Request) (s : Option ℕ) (l : ℕ) (hs : List Entry) (h : Entry) (b : Bool) → k q ≡ b → next_of k (record { request = q; until_done = s; left = l } ∷ hs) ≡ Some h
+    → (((k q ≡ true) × (s ≡ None) × (◌≡◌ {A = Entry} (record { request = q; until_done = s; left = l }) h)) × (issue_next k (record { request = q; until_done = s; left = l } ∷ hs) ≡ issued_now (record { request = q; until_done = s; left = l }) ∷ hs))
+    ⊎ ((next_of k hs ≡ Some h) × (issue_next k (record { request = q; until_done = s; left = l } ∷ hs) ≡ record { request = q; until_done = s; left = l } ∷ issue_next k hs))
+at_head_by k q None l hs h true kb e =
+    let x : Entry = record { request = q; until_done = None; left = l } in
     let e' : ◌≡◌ {A = Option Entry} (Some x) (Some h) = sym (ap (λ b. cond (b && true) (Some x) (next_of k hs)) kb) ∙ e in
     let z : x ≡ h = cc in
     inl ((kb, refl, z), ap (λ b. cond (b && true) (issued_now x ∷ hs) (x ∷ issue_next k hs)) kb)
-at_head_by k q Waiting l hs h false kb e =
-    let x : Entry = record { request = q; stage = Waiting; left = l } in
+at_head_by k q None l hs h false kb e =
+    let x : Entry = record { request = q; until_done = None; left = l } in
     inr (sym (ap (λ b. cond (b && true) (Some x) (next_of k hs)) kb) ∙ e, ap (λ b. cond (b && true) (issued_now x ∷ hs) (x ∷ issue_next k hs)) kb)
-at_head_by k q (Issued n) l hs h true kb e =
-    let x : Entry = record { request = q; stage = Issued n; left = l } in
+at_head_by k q (Some n) l hs h true kb e =
+    let x : Entry = record { request = q; until_done = Some n; left = l } in
     inr (sym (ap (λ b. cond (b && false) (Some x) (next_of k hs)) kb) ∙ e, ap (λ b. cond (b && false) (issued_now x ∷ hs) (x ∷ issue_next k hs)) kb)
-at_head_by k q (Issued n) l hs h false kb e =
-    let x : Entry = record { request = q; stage = Issued n; left = l } in
+at_head_by k q (Some n) l hs h false kb e =
+    let x : Entry = record { request = q; until_done = Some n; left = l } in
     inr (sym (ap (λ b. cond (b && false) (Some x) (next_of k hs)) kb) ∙ e, ap (λ b. cond (b && false) (issued_now x ∷ hs) (x ∷ issue_next k hs)) kb)
 
 abbrev Front : (Request → Bool) → Entry → List Entry → Entry → Type 0
-Front k x hs h = (((k x.request ≡ true) × (x.stage ≡ Waiting) × (x ≡ h)) × (issue_next k (x ∷ hs) ≡ issued_now x ∷ hs)) ⊎ ((next_of k hs ≡ Some h) × (issue_next k (x ∷ hs) ≡ x ∷ issue_next k hs))
+Front k x hs h = (((k x.request ≡ true) × (x.until_done ≡ None) × (x ≡ h)) × (issue_next k (x ∷ hs) ≡ issued_now x ∷ hs)) ⊎ ((next_of k hs ≡ Some h) × (issue_next k (x ∷ hs) ≡ x ∷ issue_next k hs))
 
 pub at_head : (k : Request → Bool) (x : Entry) (hs : List Entry) (h : Entry) → next_of k (x ∷ hs) ≡ Some h → Front k x hs h
-at_head k x hs h e = at_head_by k x.request x.stage x.left hs h (k x.request) refl e
+at_head k x hs h e = at_head_by k x.request x.until_done x.left hs h (k x.request) refl e
 
 pub no_next : (k : Request → Bool) (h : Entry) → next_of k [] ≡ Some h → ⊥
 no_next k h e = let z : ◌≡◌ {A = ℕ} 0 1 = cc in omega arith
@@ -168,8 +130,8 @@ next_in k (x ∷ hs) h e =
     (λ f. or_true (has h.request.slot x) _ (next_in k hs h f.0))
     (at_head k x hs h e)
 
-waiting_later : (s : Stage) → sooner s ≡ Waiting → issued_stage s ≡ false
-waiting_later s e = sym (stage_later s) ∙ ap issued_stage e
+waiting_later : (s : Option ℕ) → sooner s ≡ None → is_some s ≡ false
+waiting_later s e = sym (stage_later s) ∙ ap is_some e
 
 issued_aged : (k : Request → Bool) (es : List Event) (h : Entry) (hs : List Entry) → Apart key hs → ((n : ℕ) → any (issues n) es ≡ eqb h.request.slot n) → next_of k (map later hs) ≡ Some h
     → map reading_of (issue_next k (map later hs)) ≡ map (aged es) (map reading_of hs)
@@ -180,7 +142,7 @@ issued_aged k es h (x ∷ hs) a i e =
     let z = ap (λ (y : Entry). y.request.slot) f.0.2 in
     ap (map reading_of) f.1
     ∙ ap (λ y. y ∷ map reading_of (map later hs))
-    (reading_path (reading_of (issued_now (later x))) (aged es (reading_of x)) refl (sym (or_true (issued_stage x.stage) _ (i x.request.slot ∙ eq-eqb _ _ (sym z)))) refl)
+    (reading_path (reading_of (issued_now (later x))) (aged es (reading_of x)) refl (sym (or_true (is_some x.until_done) _ (i x.request.slot ∙ eq-eqb _ _ (sym z)))) refl)
     ∙ ap (λ r. aged es (reading_of x) ∷ r) (aged_all es hs (λ n t. i n ∙ ap (λ m. eqb m n) (sym z) ∙ some_self key n hs x.request.slot a.0 t)))
     (λ f.
     let in_rest : any (has h.request.slot) hs ≡ true = sym (some_later h.request.slot hs) ∙ next_in k (map later hs) h f.0 in
@@ -203,21 +165,21 @@ stepped_held hs ls es a = ⊎_elim moved sent
 
 -- ---- each slot's events
 
-proper_at : (m n : ℕ) (s : Stage) (ds : List Event) (st : Standing) (b t : Bool) → eqb m n ≡ b → expired_stage (sooner s) ≡ t → (b ≡ true → events_of n ds ≡ []) → Proper st (events_of n ds)
-    → Proper (cond b (cond (issued_stage s) Standing.in_flight Standing.waiting) st) (events_of n (cond t (Done m ∷ ds) ds))
-proper_at m n Waiting ds st b true e l k r = absurd (both_ways false refl l)
-proper_at m n Waiting ds st true false e l k r = proper_none Standing.waiting _ (k refl)
-proper_at m n Waiting ds st false false e l k r = r
-proper_at m n (Issued j) ds st true true e l k r =
+proper_at : (m n : ℕ) (s : Option ℕ) (ds : List Event) (st : Standing) (b t : Bool) → eqb m n ≡ b → run_out (sooner s) ≡ t → (b ≡ true → events_of n ds ≡ []) → Proper st (events_of n ds)
+    → Proper (cond b (cond (is_some s) Standing.in_flight Standing.waiting) st) (events_of n (cond t (Done m ∷ ds) ds))
+proper_at m n None ds st b true e l k r = absurd (both_ways false refl l)
+proper_at m n None ds st true false e l k r = proper_none Standing.waiting _ (k refl)
+proper_at m n None ds st false false e l k r = r
+proper_at m n (Some j) ds st true true e l k r =
     subst (λ b. Proper Standing.in_flight (cond b (Done m ∷ events_of n ds) (events_of n ds))) (sym e) (proper_none Standing.absent _ (k refl))
-proper_at m n (Issued j) ds st false true e l k r = subst (λ b. Proper st (cond b (Done m ∷ events_of n ds) (events_of n ds))) (sym e) r
-proper_at m n (Issued j) ds st true false e l k r = proper_none Standing.in_flight _ (k refl)
-proper_at m n (Issued j) ds st false false e l k r = r
+proper_at m n (Some j) ds st false true e l k r = subst (λ b. Proper st (cond b (Done m ∷ events_of n ds) (events_of n ds))) (sym e) r
+proper_at m n (Some j) ds st true false e l k r = proper_none Standing.in_flight _ (k refl)
+proper_at m n (Some j) ds st false false e l k r = r
 
 proper_dones : (n : ℕ) (hs : List Entry) → Apart key hs → Proper (standing n (map reading_of hs)) (events_of n (dones (map later hs)))
 proper_dones n [] a = tt
 proper_dones n (h ∷ hs) a =
-    proper_at h.request.slot n h.stage (dones (map later hs)) (standing n (map reading_of hs)) (eqb h.request.slot n) (expired (later h)) refl refl
+    proper_at h.request.slot n h.until_done (dones (map later hs)) (standing n (map reading_of hs)) (eqb h.request.slot n) (expired (later h)) refl refl
     (λ e. events_of_none key expired n (map later hs) (some_later n hs ∙ ap (λ k. any (has k) hs) (sym (eqb-true _ _ e)) ∙ a.0))
     (proper_dones n hs a.1)
 
@@ -227,16 +189,16 @@ next_stands k (x ∷ hs) h a e =
     ⊎_elim
     (λ f.
     let z = ap (λ (y : Entry). y.request.slot) f.0.2 in (
-      ap (λ b. cond b (cond (issued_stage x.stage) Standing.in_flight Standing.waiting) (standing h.request.slot (map reading_of hs))) (eq-eqb _ _ z)
-          ∙ ap (λ b. cond b Standing.in_flight Standing.waiting) (waiting_later x.stage f.0.1),
-      ap (λ s. events_of h.request.slot (cond (expired_stage s) (Done x.request.slot ∷ dones (map later hs)) (dones (map later hs)))) f.0.1
+      ap (λ b. cond b (cond (is_some x.until_done) Standing.in_flight Standing.waiting) (standing h.request.slot (map reading_of hs))) (eq-eqb _ _ z)
+          ∙ ap (λ b. cond b Standing.in_flight Standing.waiting) (waiting_later x.until_done f.0.1),
+      ap (λ s. events_of h.request.slot (cond (run_out s) (Done x.request.slot ∷ dones (map later hs)) (dones (map later hs)))) f.0.1
           ∙ events_of_none key expired h.request.slot (map later hs) (some_later h.request.slot hs ∙ ap (λ m. any (has m) hs) (sym z) ∙ a.0),
     ))
     (λ f.
     let in_rest : any (has h.request.slot) hs ≡ true = sym (some_later h.request.slot hs) ∙ next_in k (map later hs) h f.0 in
     let other = some_self key h.request.slot hs x.request.slot a.0 in_rest in
     let ih = next_stands k hs h a.1 f.0 in (
-      ap (λ b. cond b (cond (issued_stage x.stage) Standing.in_flight Standing.waiting) (standing h.request.slot (map reading_of hs))) other ∙ ih.0,
+      ap (λ b. cond b (cond (is_some x.until_done) Standing.in_flight Standing.waiting) (standing h.request.slot (map reading_of hs))) other ∙ ih.0,
       events_of_skip h.request.slot x.request.slot (dones (map later hs)) (expired (later x)) other ∙ ih.1,
     ))
     (at_head k (later x) (map later hs) h e)
@@ -264,39 +226,39 @@ stepped_proper hs ls es a st n = ⊎_elim moved sent st
 
 -- ---- steps left
 
-abbrev pub Enough : Stage → ℕ → Type 0
-Enough Waiting left = 1 ≤ left
-Enough (Issued n) left = n ≤ left
+abbrev pub Enough : Option ℕ → ℕ → Type 0
+Enough None left = 1 ≤ left
+Enough (Some n) left = n ≤ left
 
 -- no request that waits has its last step behind it, and one that is issued is done in time
 abbrev pub Ample : List Entry → Type 0
 Ample [] = Unit {0}
-Ample (h ∷ hs) = Enough h.stage h.left × Ample hs
+Ample (h ∷ hs) = Enough h.until_done h.left × Ample hs
 
-punctual_at : (q : Request) (s : Stage) (l : ℕ) (ds es : List Event) → Enough s l → ((n : ℕ) → any (ends n) (cond (expired_stage s) (Done q.slot ∷ ds) ds) ≡ true → any (ends n) es ≡ true) → l ≡ 0 → any (ends q.slot) es ≡ true
-punctual_at q Waiting l ds es t i e = absurd (omega arith)
-punctual_at q (Issued n) l ds es t i e =
+punctual_at : (q : Request) (s : Option ℕ) (l : ℕ) (ds es : List Event) → Enough s l → ((n : ℕ) → any (ends n) (cond (run_out s) (Done q.slot ∷ ds) ds) ≡ true → any (ends n) es ≡ true) → l ≡ 0 → any (ends q.slot) es ≡ true
+punctual_at q None l ds es t i e = absurd (omega arith)
+punctual_at q (Some n) l ds es t i e =
     let z : n ≡ 0 = omega arith in
     i q.slot (ap (λ b. any (ends q.slot) (cond b (Done q.slot ∷ ds) ds)) (eq-eqb _ _ z) ∙ or_left _ _ (same q.slot))
 
 punctual_all : (ls : List Entry) (es : List Event) → Ample ls → ((n : ℕ) → any (ends n) (dones ls) ≡ true → any (ends n) es ≡ true) → Punctual (map reading_of ls) es
 punctual_all [] es t i = tt
 punctual_all (h ∷ ls) es t i = (
-  punctual_at h.request h.stage h.left (dones ls) es t.0 i,
+  punctual_at h.request h.until_done h.left (dones ls) es t.0 i,
   punctual_all ls es t.1 (λ n k. i n (done_more n h.request.slot (expired h) (dones ls) k)),
 )
 
-waiting_left : (s : Stage) (l : ℕ) → s ≡ Waiting → Enough s l → l ≡ 0 → ⊥
-waiting_left Waiting l e t z = omega arith
-waiting_left (Issued n) l e t z = let y : ◌≡◌ {A = ℕ} 0 1 = cc in omega arith
+waiting_left : (s : Option ℕ) (l : ℕ) → s ≡ None → Enough s l → l ≡ 0 → ⊥
+waiting_left None l e t z = omega arith
+waiting_left (Some n) l e t z = let y : ◌≡◌ {A = ℕ} 0 1 = cc in omega arith
 
 punctual_issued : (k : Request → Bool) (ls : List Entry) (h : Entry) (es : List Event) → Ample ls → next_of k ls ≡ Some h → ((n : ℕ) → any (ends n) (dones ls) ≡ true → any (ends n) es ≡ true) → Punctual (map reading_of (issue_next k ls)) es
 punctual_issued k [] h es t e i = tt
 punctual_issued k (x ∷ ls) h es t e i =
     let j : (n : ℕ) → any (ends n) (dones ls) ≡ true → any (ends n) es ≡ true = λ n q. i n (done_more n x.request.slot (expired x) (dones ls) q) in
     ⊎_elim
-    (λ f. subst (λ l. Punctual (map reading_of l) es) (sym f.1) (λ z. absurd (waiting_left x.stage x.left f.0.1 t.0 z), punctual_all ls es t.1 j))
-    (λ f. subst (λ l. Punctual (map reading_of l) es) (sym f.1) (punctual_at x.request x.stage x.left (dones ls) es t.0 i, punctual_issued k ls h es t.1 f.0 j))
+    (λ f. subst (λ l. Punctual (map reading_of l) es) (sym f.1) (λ z. absurd (waiting_left x.until_done x.left f.0.1 t.0 z), punctual_all ls es t.1 j))
+    (λ f. subst (λ l. Punctual (map reading_of l) es) (sym f.1) (punctual_at x.request x.until_done x.left (dones ls) es t.0 i, punctual_issued k ls h es t.1 f.0 j))
     (at_head k x ls h e)
 
 pub stepped_punctual : (hs ls : List Entry) (es : List Event) → Ample (map later hs) → Stepped hs ls es → Punctual (map reading_of ls) es
@@ -312,10 +274,5 @@ stepped_punctual hs ls es t = ⊎_elim moved sent
 
 -- ---- how many Dones there are
 
-length_dones_at : (n : ℕ) (ds : List Event) (b : Bool) (k : ℕ) → length ds ≤ k → length (cond b (Done n ∷ ds) ds) ≤ suc k
-length_dones_at n ds true k h = omega arith
-length_dones_at n ds false k h = omega arith
-
 pub length_dones : (hs : List Entry) → length (dones hs) ≤ length hs
-length_dones [] = omega arith
-length_dones (h ∷ hs) = length_dones_at h.request.slot (dones hs) (expired h) (length hs) (length_dones hs)
+length_dones hs = dones_few key expired hs

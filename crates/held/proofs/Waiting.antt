@@ -1,11 +1,9 @@
 -- The requests of a class that wait, in the order of taking.
-use Rattle.std.proofs.Common.{◌≡◌, ℕ, Bool, true, false, cond, ◌&&◌, List, [], ◌∷◌, ◌++◌, map, Some, sym, refl, ap, ◌∙◌}
+use Rattle.std.proofs.Common.{◌≡◌, ℕ, Bool, true, false, cond, ◌&&◌, List, [], ◌∷◌, ◌++◌, map, Some, Option, None, sym, refl, ap, ◌∙◌}
 use Rattle.interface.specs.Meaning.{first, rest}
 use Rattle.interface.specs.Slots.{dropped, failing, passing}
 use Rattle.interface.specs.declared.Request.{Request}
 use Rattle.interface.proofs.Slots.{Apart, marked, failing_append, failing_dropped, map_append}
-use Rattle.held.specs.declared.entries.Stage.{Stage}
-use Rattle.held.specs.declared.entries.Stage.TheVariants.{Waiting, Issued}
 use Rattle.held.specs.declared.entries.Entry.{Entry}
 use Rattle.held.specs.Entries.{request_of, later, key, next_of, issue_next, issued_now, is_issued, new_entry}
 
@@ -32,71 +30,71 @@ module _ (k : Request → Bool) where
   -- a step passes
   pub waiting_later : (hs : List Entry) → map request_of (waiting k (map later hs)) ≡ map request_of (waiting k hs)
   waiting_later [] = refl
-  waiting_later (h ∷ hs) = at h.request h.stage h.left (waiting_later hs)
+  waiting_later (h ∷ hs) = at h.request h.until_done h.left (waiting_later hs)
     where
-      at : (q : Request) (s : Stage) (l : ℕ) → map request_of (waiting k (map later hs)) ≡ map request_of (waiting k hs)
-          → map request_of (waiting k (later (record { request = q; stage = s; left = l }) ∷ map later hs)) ≡ map request_of (waiting k (record { request = q; stage = s; left = l } ∷ hs))
-      at q Waiting l e = go (k q)
+      at : (q : Request) (s : Option ℕ) (l : ℕ) → map request_of (waiting k (map later hs)) ≡ map request_of (waiting k hs)
+          → map request_of (waiting k (later (record { request = q; until_done = s; left = l }) ∷ map later hs)) ≡ map request_of (waiting k (record { request = q; until_done = s; left = l } ∷ hs))
+      at q None l e = go (k q)
         where
-          go : (b : Bool) → map request_of (cond b (later (record { request = q; stage = Waiting; left = l }) ∷ waiting k (map later hs)) (waiting k (map later hs)))
-              ≡ map request_of (cond b (record { request = q; stage = Waiting; left = l } ∷ waiting k hs) (waiting k hs))
+          go : (b : Bool) → map request_of (cond b (later (record { request = q; until_done = None; left = l }) ∷ waiting k (map later hs)) (waiting k (map later hs)))
+              ≡ map request_of (cond b (record { request = q; until_done = None; left = l } ∷ waiting k hs) (waiting k hs))
           go true = ap (λ r. q ∷ r) e
           go false = e
-      at q (Issued n) l e = e
+      at q (Some n) l e = e
 
   -- the oldest of them is the next to be issued
   pub next_waiting : (hs : List Entry) → next_of k hs ≡ first (waiting k hs)
   next_waiting [] = refl
-  next_waiting (h ∷ hs) = at h.request h.stage h.left (next_waiting hs)
+  next_waiting (h ∷ hs) = at h.request h.until_done h.left (next_waiting hs)
     where
-      at : (q : Request) (s : Stage) (l : ℕ) → next_of k hs ≡ first (waiting k hs)
-          → next_of k (record { request = q; stage = s; left = l } ∷ hs) ≡ first (waiting k (record { request = q; stage = s; left = l } ∷ hs))
-      at q Waiting l e = go (k q)
+      at : (q : Request) (s : Option ℕ) (l : ℕ) → next_of k hs ≡ first (waiting k hs)
+          → next_of k (record { request = q; until_done = s; left = l } ∷ hs) ≡ first (waiting k (record { request = q; until_done = s; left = l } ∷ hs))
+      at q None l e = go (k q)
         where
-          go : (b : Bool) → cond (b && true) (Some (record { request = q; stage = Waiting; left = l })) (next_of k hs) ≡ first (cond b (record { request = q; stage = Waiting; left = l } ∷ waiting k hs) (waiting k hs))
+          go : (b : Bool) → cond (b && true) (Some (record { request = q; until_done = None; left = l })) (next_of k hs) ≡ first (cond b (record { request = q; until_done = None; left = l } ∷ waiting k hs) (waiting k hs))
           go true = refl
           go false = e
-      at q (Issued n) l e = go (k q)
+      at q (Some n) l e = go (k q)
         where
-          go : (b : Bool) → cond (b && false) (Some (record { request = q; stage = Issued n; left = l })) (next_of k hs) ≡ first (waiting k hs)
+          go : (b : Bool) → cond (b && false) (Some (record { request = q; until_done = Some n; left = l })) (next_of k hs) ≡ first (waiting k hs)
           go true = e
           go false = e
 
   -- that one is issued
   pub waiting_issued : (hs : List Entry) → waiting k (issue_next k hs) ≡ rest (waiting k hs)
   waiting_issued [] = refl
-  waiting_issued (h ∷ hs) = at h.request h.stage h.left (waiting_issued hs)
+  waiting_issued (h ∷ hs) = at h.request h.until_done h.left (waiting_issued hs)
     where
-      at : (q : Request) (s : Stage) (l : ℕ) → waiting k (issue_next k hs) ≡ rest (waiting k hs)
-          → waiting k (issue_next k (record { request = q; stage = s; left = l } ∷ hs)) ≡ rest (waiting k (record { request = q; stage = s; left = l } ∷ hs))
-      at q Waiting l e = go (k q) refl
+      at : (q : Request) (s : Option ℕ) (l : ℕ) → waiting k (issue_next k hs) ≡ rest (waiting k hs)
+          → waiting k (issue_next k (record { request = q; until_done = s; left = l } ∷ hs)) ≡ rest (waiting k (record { request = q; until_done = s; left = l } ∷ hs))
+      at q None l e = go (k q) refl
         where
-          go : (b : Bool) → k q ≡ b → waiting k (cond (b && true) (issued_now (record { request = q; stage = Waiting; left = l }) ∷ hs) (record { request = q; stage = Waiting; left = l } ∷ issue_next k hs))
-              ≡ rest (cond b (record { request = q; stage = Waiting; left = l } ∷ waiting k hs) (waiting k hs))
+          go : (b : Bool) → k q ≡ b → waiting k (cond (b && true) (issued_now (record { request = q; until_done = None; left = l }) ∷ hs) (record { request = q; until_done = None; left = l } ∷ issue_next k hs))
+              ≡ rest (cond b (record { request = q; until_done = None; left = l } ∷ waiting k hs) (waiting k hs))
           go true z = refl
-          go false z = ap (λ b. cond b (record { request = q; stage = Waiting; left = l } ∷ waiting k (issue_next k hs)) (waiting k (issue_next k hs))) z ∙ e
-      at q (Issued n) l e = go (k q)
+          go false z = ap (λ b. cond b (record { request = q; until_done = None; left = l } ∷ waiting k (issue_next k hs)) (waiting k (issue_next k hs))) z ∙ e
+      at q (Some n) l e = go (k q)
         where
-          go : (b : Bool) → waiting k (cond (b && false) (issued_now (record { request = q; stage = Issued n; left = l }) ∷ hs) (record { request = q; stage = Issued n; left = l } ∷ issue_next k hs)) ≡ rest (waiting k hs)
+          go : (b : Bool) → waiting k (cond (b && false) (issued_now (record { request = q; until_done = Some n; left = l }) ∷ hs) (record { request = q; until_done = Some n; left = l } ∷ issue_next k hs)) ≡ rest (waiting k hs)
           go true = e
           go false = e
 
   -- one of another class is issued
   pub waiting_others : (j : Request → Bool) → ((q : Request) → j q ≡ true → k q ≡ false) → (hs : List Entry) → waiting k (issue_next j hs) ≡ waiting k hs
   waiting_others j o [] = refl
-  waiting_others j o (h ∷ hs) = at h.request h.stage h.left (waiting_others j o hs)
+  waiting_others j o (h ∷ hs) = at h.request h.until_done h.left (waiting_others j o hs)
     where
-      at : (q : Request) (s : Stage) (l : ℕ) → waiting k (issue_next j hs) ≡ waiting k hs
-          → waiting k (issue_next j (record { request = q; stage = s; left = l } ∷ hs)) ≡ waiting k (record { request = q; stage = s; left = l } ∷ hs)
-      at q Waiting l e = go (j q) refl
+      at : (q : Request) (s : Option ℕ) (l : ℕ) → waiting k (issue_next j hs) ≡ waiting k hs
+          → waiting k (issue_next j (record { request = q; until_done = s; left = l } ∷ hs)) ≡ waiting k (record { request = q; until_done = s; left = l } ∷ hs)
+      at q None l e = go (j q) refl
         where
-          go : (b : Bool) → j q ≡ b → waiting k (cond (b && true) (issued_now (record { request = q; stage = Waiting; left = l }) ∷ hs) (record { request = q; stage = Waiting; left = l } ∷ issue_next j hs))
-              ≡ cond (k q) (record { request = q; stage = Waiting; left = l } ∷ waiting k hs) (waiting k hs)
-          go true z = ap (λ b. cond b (record { request = q; stage = Waiting; left = l } ∷ waiting k hs) (waiting k hs)) (sym (o q z))
-          go false z = ap (λ w. cond (k q) (record { request = q; stage = Waiting; left = l } ∷ w) w) e
-      at q (Issued n) l e = go (j q)
+          go : (b : Bool) → j q ≡ b → waiting k (cond (b && true) (issued_now (record { request = q; until_done = None; left = l }) ∷ hs) (record { request = q; until_done = None; left = l } ∷ issue_next j hs))
+              ≡ cond (k q) (record { request = q; until_done = None; left = l } ∷ waiting k hs) (waiting k hs)
+          go true z = ap (λ b. cond b (record { request = q; until_done = None; left = l } ∷ waiting k hs) (waiting k hs)) (sym (o q z))
+          go false z = ap (λ w. cond (k q) (record { request = q; until_done = None; left = l } ∷ w) w) e
+      at q (Some n) l e = go (j q)
         where
-          go : (b : Bool) → waiting k (cond (b && false) (issued_now (record { request = q; stage = Issued n; left = l }) ∷ hs) (record { request = q; stage = Issued n; left = l } ∷ issue_next j hs)) ≡ waiting k hs
+          go : (b : Bool) → waiting k (cond (b && false) (issued_now (record { request = q; until_done = Some n; left = l }) ∷ hs) (record { request = q; until_done = Some n; left = l } ∷ issue_next j hs)) ≡ waiting k hs
           go true = e
           go false = e
 

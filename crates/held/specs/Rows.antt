@@ -1,13 +1,13 @@
 -- What a table holds, and what its calls do to that.
-use Rattle.std.specs.Prelude.{ℕ, Bool, cond, not, List, [], ◌∷◌, ◌++◌, map, length, Some, None, vec_items, Option, nat_le, refl}
+use Rattle.std.specs.Prelude.{ℕ, Bool, cond, not, List, [], ◌∷◌, ◌++◌, map, length, Some, None, Option, nat_le, refl}
 use Rattle.interface.specs.Meaning.{Meaning, first, rest, is_empty, check}
 use Rattle.interface.specs.Slots.{dropped, dropped_by}
 use Rattle.interface.specs.Codec.{Codec, event_codec, many, both, via}
 use Rattle.interface.specs.declared.Request.{Request}
 use Rattle.interface.specs.declared.Event.{Event}
 use Rattle.interface.specs.declared.Event.TheVariants.{Issue}
+use Rattle.holder.specs.Holding.{Holding}
 use Rattle.held.specs.declared.entries.Entry.{Entry}
-use Rattle.held.specs.declared.tables.Table.{Table}
 use Rattle.held.specs.Entries.{key, later, dones, reading_of, new_entry, next_of, issue_next, entry_codec}
 
 -- the entries in the order of taking, and the events that are ready
@@ -15,8 +15,8 @@ pub record Rows : Type 0 where
   pub entries : List Entry
   pub events : List Event
 
-abbrev pub rows : Table → Rows
-rows t = record { entries = vec_items t.entries; events = vec_items t.events }
+abbrev pub rows_of : Holding Entry → Rows
+rows_of h = record { entries = h.entries; events = h.events }
 
 abbrev pub no_rows : Rows
 no_rows = record { entries = []; events = [] }

@@ -4,5 +4,5 @@
 mod entries;
 mod tables;
 
-pub use entries::{Entry, Stage, Whose};
+pub use entries::Entry;
 pub use tables::Table;

@@ -2,7 +2,7 @@
 use Rattle.std.proofs.Common.{◌≡◌, ℕ, zero, suc, ◌+◌, ◌<◌, ◌≤◌, Bool, true, false, cond, ◌&&◌, ◌||◌, eqb, ltb, List, [], ◌∷◌, ◌++◌, map, length, get_or, drop, Some, None, Option, sym, refl, ap, ◌∙◌, subst, append_assoc, append-nil, add-one, arith, drop-cons, ltb-false, ltb-true, le-ltb, lt-ltb, ne_eqb, eqb-true}
 use borrow.Author.Tests.{both_ways}
 use Rattle.std.specs.List.{remove}
-use Rattle.interface.specs.Meaning.{Held, first, rest, any, has_slot}
+use Rattle.interface.specs.Meaning.{Held, first, any, has_slot}
 use Rattle.interface.specs.Lawful.{issues, ends, without, ended, Standing, standing, slot_of, events_of, Proper}
 use Rattle.interface.specs.Slots.{place, has_in, dropped, dropped_by, dones_of, failing}
 use Rattle.interface.specs.declared.Event.{Event}
@@ -10,13 +10,6 @@ use Rattle.interface.specs.declared.Event.TheVariants.{Issue, Done}
 use Rattle.interface.proofs.Bools.{or_false, or_both, or_left, or_true, eqb_comm, same}
 
 -- ---- places
-
-pub place_here : {X : Type 0} (p : X → Bool) (xs : List X) (i : ℕ) (d : X) → i < length xs → p (get_or xs i d) ≡ true → place p (drop i xs) ≡ 0
-place_here p xs i d h e = ap (place p) (drop-cons xs i d h) ∙ ap (λ b. cond b 0 (suc (place p (drop (suc i) xs)))) e
-
-pub place_next : {X : Type 0} (p : X → Bool) (xs : List X) (i : ℕ) (d : X) → i < length xs → p (get_or xs i d) ≡ false → place p (drop i xs) ≡ suc (place p (drop (i + 1) xs))
-place_next p xs i d h e =
-    ap (place p) (drop-cons xs i d h) ∙ ap (λ b. cond b 0 (suc (place p (drop (suc i) xs)))) e ∙ ap (λ k. suc (place p (drop k xs))) (sym (add-one i))
 
 pub place_drop_all : {X : Type 0} (p : X → Bool) (xs : List X) (i : ℕ) → length xs ≤ i → place p (drop i xs) ≡ 0
 place_drop_all p [] zero h = refl
@@ -34,10 +27,6 @@ suc_ltb m n = go (ltb m n) refl
 pub first_at : {X : Type 0} (xs : List X) (v : X) → (length xs ≡ 0 → ⊥) → v ≡ get_or xs 0 v → first xs ≡ Some v
 first_at [] v h e = absurd (h refl)
 first_at (x ∷ xs) v h e = ap Some (sym e)
-
-pub rest_at : {X : Type 0} (xs : List X) → remove xs 0 ≡ rest xs
-rest_at [] = refl
-rest_at (x ∷ xs) = refl
 
 pub map_append : {X Y : Type 0} (f : X → Y) (xs : List X) (x : X) → map f (xs ++ (x ∷ [])) ≡ map f xs ++ (f x ∷ [])
 map_append f [] x = refl

@@ -1,5 +1,6 @@
 -- What a controller means: what is read from its state, what each call answers, and the state after it.
-use Rattle.std.specs.Prelude.{◌≡◌, ℕ, Bool, true, false, cond, not, ◌&&◌, ◌||◌, List, [], ◌∷◌, length, Some, None, Ok, Err, Option, Result, ◌==◌, nat_le, nat_lt}
+use Rattle.std.specs.Prelude.{◌≡◌, ℕ, Bool, true, false, cond, not, ◌&&◌, List, [], ◌∷◌, length, Some, None, Ok, Err, Option, Result, ◌==◌, nat_le, nat_lt}
+use Rattle.std.specs.List.{list_any}
 use Rattle.interface.specs.declared.Request.{Request}
 use Rattle.interface.specs.declared.Event.{Event}
 use Rattle.interface.specs.declared.Refusal.{Refusal}
@@ -50,8 +51,7 @@ is_empty [] = true
 is_empty (x ∷ xs) = false
 
 abbrev pub any : {X : Type 0} → (X → Bool) → List X → Bool
-any p [] = false
-any p (x ∷ xs) = p x || any p xs
+any p xs = list_any p xs
 
 -- ---- slots
 

@@ -1,15 +1,67 @@
 // What every controller of the card has in common: requests, events, refusals, and the interface.
 #![tactic(auto)]
 
-ghost use Rattle.std.specs.Prelude.{◌≡◌, ℕ, ◌^◌, ◌<◌, List, Option as Optional};
+ghost use Rattle.std.specs.Prelude.{◌≡◌, ℕ, ◌^◌, ◌<◌, List, [], ◌∷◌, Some, Option as Optional};
+ghost use Rattle.interface.specs.Kinds.{kind_of, letter_of, access_of, unknown_text};
 ghost use Rattle.interface.specs.Meaning.{Meaning, Held, Call, after, number, refused, first, left_of, in_range, take_refusal, step_refusal};
 ghost use Rattle.interface.specs.Lawful.{Lawful};
 ghost use Rattle.interface.specs.declared.Event.{Event as ReadyEvent};
+
+use std::error::Error;
+use std::fmt;
 
 #[derive(Clone, Copy, PartialEq, Eq, Debug)]
 pub enum Kind {
     Read,
     Write,
+}
+
+// A letter that names no kind.
+#[derive(Clone, Copy, PartialEq, Eq, Debug)]
+pub struct UnknownKind(pub char);
+
+// R names a read, W a write.
+impl TryFrom<char> for Kind {
+    type Error = UnknownKind;
+
+    ghost try_from_gives = { λ letter res. res ≡ kind_of letter };
+
+    fn try_from(letter: char) -> Result<Kind, UnknownKind> {
+        match letter {
+            'R' => Ok(Kind::Read),
+            'W' => Ok(Kind::Write),
+            _ => Err(UnknownKind(letter)),
+        }
+    }
+}
+
+// The letter that names it.
+impl fmt::Display for Kind {
+    ghost output = { λ kind. Some (letter_of kind ∷ []) };
+
+    fn fmt<W: fmt::Write>(&self, f: &mut fmt::Formatter<W>) -> fmt::Result {
+        f.write_str(match self {
+            Kind::Read => "R",
+            Kind::Write => "W",
+        })
+    }
+}
+
+impl fmt::Display for UnknownKind {
+    ghost output = { λ _. Some unknown_text };
+
+    fn fmt<W: fmt::Write>(&self, f: &mut fmt::Formatter<W>) -> fmt::Result {
+        f.write_str("a letter that names no kind")
+    }
+}
+
+impl Error for UnknownKind {}
+
+// What a request asks of the card: a bank, and what is done there.
+#[derive(Clone, Copy, PartialEq, Eq, Debug)]
+pub struct Access {
+    pub bank: u8,
+    pub kind: Kind,
 }
 
 // What a controller is asked to do. While it is held, its slot tells it apart.
@@ -28,6 +80,15 @@ impl Request {
     {
         self.slot < 512 && self.domain < 8 && self.bank < 8
     }
+
+    pub fn access(self) -> Access
+        ensures { result ≡ access_of self }
+    {
+        Access {
+            bank: self.bank,
+            kind: self.kind,
+        }
+    }
 }
 
 // What a controller reports of a slot: its request went to the card, and the card has finished it.
@@ -37,30 +98,24 @@ pub enum Event {
     Done(u16),
 }
 
-// Why a controller refuses a call.
+// Why a controller refuses a call, with the number by which each refusal is known.
 #[derive(Clone, Copy, PartialEq, Eq, Debug)]
 pub enum Refusal {
     // slot above 511, domain above 7 or bank above 7
-    OutOfRange,
+    OutOfRange = 17,
     // the slot is held
-    SlotHeld,
+    SlotHeld = 18,
     // as many requests are held as there are places
-    Full,
+    Full = 19,
     // a step while events are ready
-    EventsReady,
+    EventsReady = 20,
 }
 
 impl Refusal {
-    // The number by which the refusal is known.
     pub fn number(self) -> u8
         ensures { result ≡ number self }
     {
-        match self {
-            Refusal::OutOfRange => 17,
-            Refusal::SlotHeld => 18,
-            Refusal::Full => 19,
-            Refusal::EventsReady => 20,
-        }
+        self as u8
     }
 }
 

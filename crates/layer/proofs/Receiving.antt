@@ -10,10 +10,8 @@ use Rattle.interface.specs.declared.Event.TheVariants.{Issue, Done}
 use Rattle.interface.proofs.Bools.{or_left, or_true, and_left, same}
 use Rattle.interface.proofs.Slots.{Apart, some_map, some_self, some_failing, standing_none, proper_none, events_of_none, events_of_skip, events_of_one}
 use Rattle.layer.specs.declared.entry.Entry.{Entry}
-use Rattle.layer.specs.declared.forward.Forward.{Forward}
-use Rattle.layer.specs.declared.forward.Forward.TheVariants.{Issues}
+use Rattle.layer.specs.Forwards.{is_issue, forwarded}
 use Rattle.layer.specs.Entries.{new_entry, slot_of_entry, updated, advanced, is_due, reading}
-use Rattle.layer.specs.Forwards.{forwards, forwarded}
 use Rattle.layer.specs.Contents.{dones_due}
 
 abbrev pub has : ℕ → Entry → Bool
@@ -69,10 +67,6 @@ others_none other p n es ws e h =
     absent_none (events_of n es) (subst (λ st. Proper st (events_of n es)) (standing_none slot_of_entry (reading p) (λ v. refl) n (failing (away other) ws) (some_failing slot_of_entry (away other) n ws e)) h)
 
 -- ---- tests on one slot's events
-
-abbrev is_issue : Event → Bool
-is_issue (Issue n) = true
-is_issue (Done n) = false
 
 abbrev pub is_done : Event → Bool
 is_done (Issue n) = false
@@ -158,18 +152,18 @@ proper_all n q es (w ∷ ws) r k = proper_all_at n q es w ws (has n w) refl r.0 
 -- ---- each slot's events, where the Issues are handed on and Dones come later
 
 abbrev issues_in : List Event → List Event
-issues_in = forwarded Issues
+issues_in = forwarded is_issue
 
-events_of_forwarded_at : (f : Forward) (n : ℕ) (e : Event) (es : List Event) (b v : Bool) → eqb (slot_of e) n ≡ b → forwards f e ≡ v → events_of n (forwarded f es) ≡ forwarded f (events_of n es)
+events_of_forwarded_at : (f : Event → Bool) (n : ℕ) (e : Event) (es : List Event) (b v : Bool) → eqb (slot_of e) n ≡ b → f e ≡ v → events_of n (forwarded f es) ≡ forwarded f (events_of n es)
     → events_of n (cond v (e ∷ forwarded f es) (forwarded f es)) ≡ forwarded f (cond b (e ∷ events_of n es) (events_of n es))
 events_of_forwarded_at f n e es true true k j ih = ap (λ b. cond b (e ∷ events_of n (forwarded f es)) (events_of n (forwarded f es))) k ∙ ap (λ l. e ∷ l) ih ∙ ap (λ b. cond b (e ∷ forwarded f (events_of n es)) (forwarded f (events_of n es))) (sym j)
 events_of_forwarded_at f n e es true false k j ih = ih ∙ ap (λ b. cond b (e ∷ forwarded f (events_of n es)) (forwarded f (events_of n es))) (sym j)
 events_of_forwarded_at f n e es false true k j ih = ap (λ b. cond b (e ∷ events_of n (forwarded f es)) (events_of n (forwarded f es))) k ∙ ih
 events_of_forwarded_at f n e es false false k j ih = ih
 
-pub events_of_forwarded : (f : Forward) (n : ℕ) (es : List Event) → events_of n (forwarded f es) ≡ forwarded f (events_of n es)
+pub events_of_forwarded : (f : Event → Bool) (n : ℕ) (es : List Event) → events_of n (forwarded f es) ≡ forwarded f (events_of n es)
 events_of_forwarded f n [] = refl
-events_of_forwarded f n (e ∷ es) = events_of_forwarded_at f n e es (eqb (slot_of e) n) (forwards f e) refl refl (events_of_forwarded f n es)
+events_of_forwarded f n (e ∷ es) = events_of_forwarded_at f n e es (eqb (slot_of e) n) (f e) refl refl (events_of_forwarded f n es)
 
 proper_done : (m : ℕ) (t : Bool) → Proper Standing.in_flight (cond t (Done m ∷ []) [])
 proper_done m true = tt

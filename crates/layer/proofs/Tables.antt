@@ -1,17 +1,16 @@
 -- What the calls of a table do to its contents.
-use Rattle.std.proofs.Common.{◌≡◌, ℕ, Bool, true, false, cond, ◌||◌, ltb, List, [], ◌∷◌, ◌++◌, map, length, sym, refl, ap, ◌∙◌, ltb-false, ltb-true}
+use Rattle.std.proofs.Common.{◌≡◌, Bool, true, false, cond, ◌||◌, List, [], ◌∷◌, ◌++◌, map, sym, refl, ap, ◌∙◌}
 use Rattle.interface.specs.Meaning.{any, first, rest, is_empty}
 use Rattle.interface.specs.Lawful.{issues, ends}
 use Rattle.interface.specs.declared.Event.{Event}
 use Rattle.interface.proofs.Bools.{or_right, or_assoc}
-use Rattle.interface.proofs.Slots.{held_there, held_not, some_entries}
-use Rattle.interface.specs.Slots.{place, has_in, dropped_by}
+use Rattle.interface.specs.Slots.{dropped_by}
 use borrow.Author.Tests.{both_ways}
 use Rattle.layer.specs.declared.entry.Entry.{Entry}
-use Rattle.layer.specs.declared.forward.Forward.{Forward}
-use Rattle.layer.specs.Entries.{updated, slot_of_entry, reading}
-use Rattle.layer.specs.Forwards.{forwards, forwarded}
-use Rattle.layer.specs.Contents.{Contents, added, all_added, gathered, collected}
+use Rattle.layer.specs.Forwards.{forwarded}
+use Rattle.layer.specs.Entries.{updated, slot_of_entry}
+use Rattle.holder.specs.Holding.{Holding, all_added, with_event, updated as changed}
+use Rattle.layer.specs.Contents.{Contents, contents_of, gathered, collected}
 
 pub contents_path : (a b : Contents) → a.held ≡ b.held → a.events ≡ b.events → a ≡ b
 contents_path a b p q = λ i. record { held = p i; events = q i }
@@ -45,34 +44,31 @@ map_fuse f g h (w ∷ ws) e = ap (λ x. x ∷ map f (map g ws)) (e w) ∙ ap (λ
 
 -- ---- events
 
-forwarded_one : (f : Forward) (e : Event) (es out : List Event) (b : Bool) → all_added (forwarded f es) (all_added (cond b (e ∷ []) []) out) ≡ all_added (cond b (e ∷ forwarded f es) (forwarded f es)) out
+forwarded_one : (f : Event → Bool) (e : Event) (es out : List Event) (b : Bool) → all_added (forwarded f es) (all_added (cond b (e ∷ []) []) out) ≡ all_added (cond b (e ∷ forwarded f es) (forwarded f es)) out
 forwarded_one f e es out true = refl
 forwarded_one f e es out false = refl
 
-pub gathered_more : (f : Forward) (e : Event) (es : List Event) (t : Contents) → gathered f es (gathered f (e ∷ []) t) ≡ gathered f (e ∷ es) t
+pub gathered_more : (f : Event → Bool) (e : Event) (es : List Event) (t : Contents) → gathered f es (gathered f (e ∷ []) t) ≡ gathered f (e ∷ es) t
 gathered_more f e es t =
     contents_path (gathered f es (gathered f (e ∷ []) t)) (gathered f (e ∷ es) t)
     (map_fuse (updated es) (updated (e ∷ [])) (updated (e ∷ es)) t.held (updated_append (e ∷ []) es))
-    (forwarded_one f e es t.events (forwards f e))
+    (forwarded_one f e es t.events (f e))
 
-pub gathered_none : (f : Forward) (t : Contents) → t ≡ gathered f [] t
+pub gathered_none : (f : Event → Bool) (t : Contents) → t ≡ gathered f [] t
 gathered_none f t = contents_path t (gathered f [] t) (map_same (updated []) t.held updated_none) refl
 
 -- an event that is received, by whether it is handed on
-pub forwarded_on : (f : Forward) (e : Event) (us : List Event) (t : Contents) → forwards f e ≡ true → us ≡ added e t.events → us ≡ (gathered f (e ∷ []) t).events
-forwarded_on f e us t b k = k ∙ ap (λ v. all_added (cond v (e ∷ []) []) t.events) (sym b)
+received : (f : Event → Bool) (e : Event) (b : Bool) (es : List Event) (h g : Holding Entry) → f e ≡ b → contents_of g ≡ record { held = map (updated (e ∷ [])) h.entries; events = all_added (cond b (e ∷ []) []) h.events }
+    → gathered f es (contents_of g) ≡ gathered f (e ∷ es) (contents_of h)
+received f e b es h g is new =
+    ap (gathered f es) (new ∙ contents_path _ (gathered f (e ∷ []) (contents_of h)) refl (ap (λ v. all_added (cond v (e ∷ []) []) h.events) (sym is)))
+    ∙ gathered_more f e es (contents_of h)
 
-pub not_forwarded : (f : Forward) (e : Event) (t : Contents) → forwards f e ≡ false → t.events ≡ (gathered f (e ∷ []) t).events
-not_forwarded f e t b = ap (λ v. all_added (cond v (e ∷ []) []) t.events) (sym b)
+pub handed_on : (f : Event → Bool) (e : Event) (es : List Event) (h g k : Holding Entry) → f e ≡ true → g ≡ changed (updated (e ∷ [])) h → k ≡ with_event e g → gathered f es (contents_of k) ≡ gathered f (e ∷ es) (contents_of h)
+handed_on f e es h g k is new more = received f e true es h k is (ap contents_of (more ∙ ap (with_event e) new))
 
--- ---- slots
-
-pub held_place : (n : ℕ) (ws : List Entry) → ltb (place (has_in slot_of_entry n) ws) (length ws) ≡ any (has_in slot_of_entry n) ws
-held_place n ws = go (ltb (place (has_in slot_of_entry n) ws) (length ws)) refl
-  where
-    go : (b : Bool) → ltb (place (has_in slot_of_entry n) ws) (length ws) ≡ b → b ≡ any (has_in slot_of_entry n) ws
-    go true e = sym (held_there slot_of_entry (reading 0) (λ w. refl) n ws (ltb-true _ _ e)) ∙ some_entries slot_of_entry (reading 0) (λ w. refl) n ws
-    go false e = sym (held_not slot_of_entry (reading 0) (λ w. refl) n ws (ltb-false _ _ e)) ∙ some_entries slot_of_entry (reading 0) (λ w. refl) n ws
+pub kept_back : (f : Event → Bool) (e : Event) (es : List Event) (h g : Holding Entry) → f e ≡ false → g ≡ changed (updated (e ∷ [])) h → gathered f es (contents_of g) ≡ gathered f (e ∷ es) (contents_of h)
+kept_back f e es h g is new = received f e false es h g is (ap contents_of new)
 
 -- ---- a collect
 

@@ -1,13 +1,12 @@
 -- What a table holds, and what its calls do.
-use Rattle.std.specs.Prelude.{ℕ, min, cond, not, List, [], ◌∷◌, ◌++◌, map, length, None, vec_items, Option, nat_le, nat_lt, refl}
+use Rattle.std.specs.Prelude.{ℕ, Bool, min, not, List, [], ◌∷◌, ◌++◌, map, length, None, Option, nat_le, refl}
 use Rattle.interface.specs.Meaning.{any, first, rest, check, in_range}
 use Rattle.interface.specs.Slots.{has_in, dropped, dropped_by, dones_of}
 use Rattle.interface.specs.Codec.{Codec, event_codec, both, many, via}
 use Rattle.interface.specs.declared.Request.{Request}
 use Rattle.interface.specs.declared.Event.{Event}
+use Rattle.holder.specs.Holding.{Holding, all_added}
 use Rattle.layer.specs.declared.entry.Entry.{Entry}
-use Rattle.layer.specs.declared.forward.Forward.{Forward}
-use Rattle.layer.specs.declared.table.Table.{Table}
 use Rattle.layer.specs.Entries.{new_entry, slot_of_entry, updated, advanced, is_due, entry_codec}
 use Rattle.layer.specs.Forwards.{forwarded}
 
@@ -17,8 +16,8 @@ pub record Contents : Type 0 where
   -- in the order in which they are collected
   pub events : List Event
 
-abbrev pub contents : Table → Contents
-contents t = record { held = vec_items t.held; events = vec_items t.events }
+abbrev pub contents_of : Holding Entry → Contents
+contents_of h = record { held = h.entries; events = h.events }
 
 abbrev pub empty : Contents
 empty = record { held = []; events = [] }
@@ -33,16 +32,8 @@ admission places t q =
 abbrev pub admitted : Contents → Request → Contents
 admitted t q = record { held = t.held ++ (new_entry q ∷ []); events = t.events }
 
--- an event is added while there is room: a step makes at most an Issue and a Done of each held request ready
-abbrev pub added : Event → List Event → List Event
-added e out = cond (nat_lt (length out) 64) (out ++ (e ∷ [])) out
-
-abbrev pub all_added : List Event → List Event → List Event
-all_added [] out = out
-all_added (e ∷ es) out = all_added es (added e out)
-
 -- the table after the events es came from below
-abbrev pub gathered : Forward → List Event → Contents → Contents
+abbrev pub gathered : (Event → Bool) → List Event → Contents → Contents
 gathered f es t = record { held = map (updated es) t.held; events = all_added (forwarded f es) t.events }
 
 -- the table after a step has passed for each held request

@@ -10,6 +10,9 @@ use Rattle.layer.specs.declared.entry.Entry.{Entry}
 abbrev pub new_entry : Request → Entry
 new_entry q = record { request = q; issued = false; done = false; age = 0 }
 
+abbrev pub request_of : Entry → Request
+request_of e = e.request
+
 abbrev pub slot_of_entry : Entry → ℕ
 slot_of_entry e = e.request.slot
 

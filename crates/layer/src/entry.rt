@@ -1,8 +1,8 @@
-// A request that a layer holds, and searches among those.
-ghost use Rattle.std.specs.Prelude.{◌≡◌, List, [], ◌∷◌, map};
-ghost use Rattle.interface.specs.Slots.{place, has_in};
-ghost use Rattle.layer.specs.Entries.{new_entry, updated, advanced, is_due, slot_of_entry};
+// A request that a layer holds.
+ghost use Rattle.std.specs.Prelude.{◌≡◌, List, [], ◌∷◌};
+ghost use Rattle.layer.specs.Entries.{request_of, new_entry, updated, advanced, is_due};
 
+use holder::OfRequest;
 use interface::{Event, Request};
 
 #[derive(Clone, Copy)]
@@ -14,6 +14,14 @@ pub struct Entry {
     pub done: bool,
     // the steps since it was taken
     pub age: u64,
+}
+
+impl OfRequest for Entry {
+    ghost request = { request_of };
+
+    fn request(&self) -> Request {
+        self.request
+    }
 }
 
 impl Entry {
@@ -60,34 +68,4 @@ impl Entry {
     {
         self.done & (u64::from(delay) <= self.age)
     }
-}
-
-// Updates each entry by an event from below.
-pub fn update(held: &mut [Entry], event: Event)
-    ensures { held.new ≡ map (updated (event ∷ [])) held.old }
-{
-    for item in held.iter_mut() {
-        *item = item.updated(event);
-    }
-}
-
-// Lets a step pass for each entry.
-pub fn advance(held: &mut [Entry])
-    ensures { held.new ≡ map advanced held.old }
-{
-    for item in held.iter_mut() {
-        *item = item.advanced();
-    }
-}
-
-// The place of the entry that has the slot, or the length.
-pub fn find(held: &[Entry], slot: u16) -> usize
-    ensures { result ≡ place (has_in slot_of_entry slot) held.now }
-{
-    for (i, item) in held.iter().enumerate() {
-        if item.request.slot == slot {
-            return i;
-        }
-    }
-    held.len()
 }

@@ -4,7 +4,8 @@ ghost use Rattle.layer.specs.Forwards.{forwards};
 
 use interface::Event;
 
-#[derive(Clone, Copy)]
+// An enum, since a closure would ask of each caller that it may be called.
+#[derive(Clone, Copy, PartialEq, Eq, Debug)]
 pub enum Forward {
     Issues,
     All,
@@ -14,10 +15,6 @@ impl Forward {
     pub fn forwards(self, event: Event) -> bool
         ensures { result ≡ forwards self event }
     {
-        match (self, event) {
-            (Forward::All, _) => true,
-            (Forward::Issues, Event::Issue(_)) => true,
-            (Forward::Issues, Event::Done(_)) => false,
-        }
+        self == Forward::All || matches!(event, Event::Issue(_))
     }
 }

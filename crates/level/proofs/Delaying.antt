@@ -13,9 +13,8 @@ use Rattle.interface.proofs.Runs.{step_ok}
 use Rattle.interface.proofs.Slots.{Apart, apart_map, some_map, marked, marked_has, Traced, traced_dones, traced_append, ends_none, ends_append}
 use Rattle.interface.proofs.Traces.{history_coded}
 use Rattle.layer.specs.declared.entry.Entry.{Entry}
-use Rattle.layer.specs.declared.forward.Forward.TheVariants.{Issues}
+use Rattle.layer.specs.Forwards.{is_issue, forwarded}
 use Rattle.layer.specs.Entries.{new_entry, slot_of_entry, is_due, reading}
-use Rattle.layer.specs.Forwards.{forwarded}
 use Rattle.layer.specs.Contents.{dones_due, collected}
 use Rattle.layer.specs.Collects.{collects}
 use Rattle.layer.proofs.Tables.{any_append}
@@ -85,13 +84,13 @@ step_dones n t st es p = ended_steps n t es ∙ proper_dones t st (events_of n e
 
 -- ---- the events of a level's step
 
-no_dones : (n : ℕ) (es : List Event) → any (ends n) (forwarded Issues es) ≡ false
+no_dones : (n : ℕ) (es : List Event) → any (ends n) (forwarded is_issue es) ≡ false
 no_dones n [] = refl
 no_dones n (Issue m ∷ es) = no_dones n es
 no_dones n (Done m ∷ es) = no_dones n es
 
-own_ends : (n : ℕ) (es ds : List Event) → any (ends n) (forwarded Issues es ++ ds) ≡ any (ends n) ds
-own_ends n es ds = any_append (ends n) (forwarded Issues es) ds ∙ ap (λ b. b || any (ends n) ds) (no_dones n es)
+own_ends : (n : ℕ) (es ds : List Event) → any (ends n) (forwarded is_issue es ++ ds) ≡ any (ends n) ds
+own_ends n es ds = any_append (ends n) (forwarded is_issue es) ds ∙ ap (λ b. b || any (ends n) ds) (no_dones n es)
 
 dones_no_issues_at : (t n : ℕ) (es : List Event) (b : Bool) → issued_in t es ≡ [] → issued_in t (cond b (Done n ∷ es) es) ≡ []
 dones_no_issues_at t n es true e = e
@@ -101,7 +100,7 @@ dones_no_issues : (t L : ℕ) (ws : List Entry) → issued_in t (dones_due L ws)
 dones_no_issues t L [] = refl
 dones_no_issues t L (w ∷ ws) = dones_no_issues_at t w.request.slot (dones_due L ws) (is_due L w) (dones_no_issues t L ws)
 
-own_issues : (t : ℕ) (es ds : List Event) → issued_in t ds ≡ [] → issued_in t (forwarded Issues es ++ ds) ≡ issued_in t es
+own_issues : (t : ℕ) (es ds : List Event) → issued_in t ds ≡ [] → issued_in t (forwarded is_issue es ++ ds) ≡ issued_in t es
 own_issues t [] ds e = e
 own_issues t (Issue n ∷ es) ds e = ap (λ l. record { slot = n; at = t } ∷ l) (own_issues t es ds e)
 own_issues t (Done n ∷ es) ds e = own_issues t es ds e
@@ -260,7 +259,7 @@ module _ (m : Meaning (List ℕ)) (l : Lawful m) (short : (s : List ℕ) → m.s
 
     -- the events of the level, where d is its number L
     abbrev own_events : State → ℕ → List Event
-    own_events s d = forwarded Issues (received s) ++ dones_due d (map (moved (received s)) s.table.held)
+    own_events s d = forwarded is_issue (received s) ++ dones_due d (map (moved (received s)) s.table.held)
 
     abbrev next : State → ℕ → State
     next s d = record { delay = s.delay; table = record { held = map (moved (received s)) s.table.held; events = own_events s d }; below = (tidy m l short s).below }
@@ -286,7 +285,7 @@ module _ (m : Meaning (List ℕ)) (l : Lawful m) (short : (s : List ℕ) → m.s
         record {
           good = subst (λ d. Good m (next s d)) (wait_is s i.delay) (good_tidy m l short s i.good);
           delay = i.delay;
-          ready = ready_dones (is_due L) (own_events s L) vs (λ n k. ends_append n (forwarded Issues es) (dones_due L vs) k);
+          ready = ready_dones (is_due L) (own_events s L) vs (λ n k. ends_append n (forwarded is_issue es) (dones_due L vs) k);
           due = traced_issues (is_due L) es (dones_due L vs) vs (traced_dones slot_of_entry (is_due L) (is_due L) (λ w k. k) vs (apart_map slot_of_entry (moved es) (λ w. refl) ws i.good.apart));
           steps = ap (λ k. k + 1) i.steps;
           takings = i.takings;

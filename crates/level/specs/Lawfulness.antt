@@ -13,25 +13,26 @@ use Rattle.interface.proofs.Slots.{Apart, apart_map, apart_dropped, apart_append
 use Rattle.interface.proofs.Runs.{reached_keeps}
 use Rattle.interface.proofs.Takes.{take_ok}
 use Rattle.layer.specs.declared.entry.Entry.{Entry}
-use Rattle.layer.specs.declared.forward.Forward.TheVariants.{Issues}
+use Rattle.layer.specs.Forwards.{is_issue, forwarded}
 use Rattle.layer.specs.Entries.{new_entry, slot_of_entry, done_below, updated, advanced, is_due, reading}
-use Rattle.layer.specs.Forwards.{forwarded}
-use Rattle.layer.specs.Contents.{all_added, dones_due, collected}
+use Rattle.holder.specs.Holding.{all_added}
+use Rattle.layer.specs.Contents.{dones_due, collected}
 use Rattle.layer.proofs.Tables.{contents_path, map_fuse}
 use Rattle.layer.proofs.Receiving.{has, moved, nobody, EachProper, DoneIssued, done_issued_dropped, done_issued_append, done_issued_step, events_of_forwarded, proper_released}
-use Rattle.layer.proofs.Counts.{all_added_is, length_dones, few_issues}
+use Rattle.holder.proofs.Holdings.{all_added_is, length_dones}
+use Rattle.layer.proofs.Counts.{few_issues}
 use Rattle.layer.proofs.Synced.{Synced, EachPunctual, agree_same, map_moved, new_reading, events_below, below_after, span_after, span_step, start_step, synced_start, synced_take, synced_drop, synced_step, proper_received, none_received, punctual_received}
 use Rattle.level.specs.Level.{State, beginning, wait, span_over, meaning_over, level_codes, level_of, level_back, level_meaning}
 use Rattle.level.specs.States.{state_path}
 
 -- ---- Issues that are handed on
 
-pub traced_issues : (p : Entry → Bool) (es ds : List Event) (ws : List Entry) → Traced slot_of_entry p ds ws → Traced slot_of_entry p (forwarded Issues es ++ ds) ws
+pub traced_issues : (p : Entry → Bool) (es ds : List Event) (ws : List Entry) → Traced slot_of_entry p ds ws → Traced slot_of_entry p (forwarded is_issue es ++ ds) ws
 traced_issues p [] ds ws t = t
 traced_issues p (Issue n ∷ es) ds ws t = traced_issues p es ds ws t
 traced_issues p (Done n ∷ es) ds ws t = traced_issues p es ds ws t
 
-issues_forwarded : (n : ℕ) (es : List Event) → any (issues n) (forwarded Issues es) ≡ any (issues n) es
+issues_forwarded : (n : ℕ) (es : List Event) → any (issues n) (forwarded is_issue es) ≡ any (issues n) es
 issues_forwarded n [] = refl
 issues_forwarded n (Issue m ∷ es) = ap (λ b. issues n (Issue m) || b) (issues_forwarded n es)
 issues_forwarded n (Done m ∷ es) = issues_forwarded n es
@@ -118,7 +119,7 @@ module _ (r : Meaning (List ℕ)) (l : Lawful r) (short : (s : List ℕ) → r.s
   abbrev pub tidy : State → State
   tidy s = record {
     delay = s.delay;
-    table = record { held = map (moved (events_of_step s)) s.table.held; events = forwarded Issues (events_of_step s) ++ dones_due (wait s) (map (moved (events_of_step s)) s.table.held) };
+    table = record { held = map (moved (events_of_step s)) s.table.held; events = forwarded is_issue (events_of_step s) ++ dones_due (wait s) (map (moved (events_of_step s)) s.table.held) };
     below = below_after r l s.below;
   }
 
@@ -141,10 +142,10 @@ module _ (r : Meaning (List ℕ)) (l : Lawful r) (short : (s : List ℕ) → r.s
       let f = g.few in
       state_path ((meaning_over r).stepped s) (tidy s) refl
       (contents_path ((meaning_over r).stepped s).table (tidy s).table fuse
-      (ap (λ o. all_added (dones_due (wait s) us) (all_added (forwarded Issues es) o)) e
-      ∙ ap (λ x. all_added (dones_due (wait s) x) (all_added (forwarded Issues es) [])) fuse
-      ∙ ap (all_added (dones_due (wait s) vs)) (all_added_is (forwarded Issues es) [] (omega arith))
-      ∙ all_added_is (dones_due (wait s) vs) (forwarded Issues es) (omega arith)))
+      (ap (λ o. all_added (dones_due (wait s) us) (all_added (forwarded is_issue es) o)) e
+      ∙ ap (λ x. all_added (dones_due (wait s) x) (all_added (forwarded is_issue es) [])) fuse
+      ∙ ap (all_added (dones_due (wait s) vs)) (all_added_is (forwarded is_issue es) [] (omega arith))
+      ∙ all_added_is (dones_due (wait s) vs) (forwarded is_issue es) (omega arith)))
       refl
 
   pub good_tidy : (s : State) → Good r s → Good r (tidy s)
@@ -182,13 +183,13 @@ module _ (r : Meaning (List ℕ)) (l : Lawful r) (short : (s : List ℕ) → r.s
       let ds = dones_due (wait s) (map (moved es) s.table.held) in
       ap (λ k. map (reading k) (map (moved es) s.table.held)) (span_tidy s)
       ∙ map_moved (span_over r s) es (tidy s).table.events s.table.held (span_fits s)
-      (λ n. issues_append n (forwarded Issues es) ds (issues_none slot_of_entry (is_due (wait s)) n (map (moved es) s.table.held)) ∙ issues_forwarded n es)
+      (λ n. issues_append n (forwarded is_issue es) ds (issues_none slot_of_entry (is_due (wait s)) n (map (moved es) s.table.held)) ∙ issues_forwarded n es)
 
   pub proper_tidy : (s : State) → Good r s → (n : ℕ) → Proper (standing n ((meaning_over r).held s)) (events_of n (tidy s).table.events)
   proper_tidy s g n =
       let es = events_of_step s in
       let ds = dones_due (wait s) (map (moved es) s.table.held) in
-      subst (Proper (standing n ((meaning_over r).held s))) (sym (events_of_append n (forwarded Issues es) ds ∙ ap (λ x. x ++ events_of n ds) (events_of_forwarded Issues n es)))
+      subst (Proper (standing n ((meaning_over r).held s))) (sym (events_of_append n (forwarded is_issue es) ds ∙ ap (λ x. x ++ events_of n ds) (events_of_forwarded is_issue n es)))
       (proper_released n (span_over r s) (wait s) es s.table.held g.apart g.issued (each_received s g) (others s g n))
 
   punctual_tidy : (s : State) → Good r s → Punctual ((meaning_over r).held (tidy s)) (tidy s).table.events
@@ -197,7 +198,7 @@ module _ (r : Meaning (List ℕ)) (l : Lawful r) (short : (s : List ℕ) → r.s
       let ds = dones_due (wait s) (map (moved es) s.table.held) in
       let h = short s.below in
       subst (λ k. Punctual (map (reading k) (map (moved es) s.table.held)) (tidy s).table.events) (sym (span_tidy s))
-      (punctual_released (r.span s.below) (span_over r s) (wait s) es (tidy s).table.events s.table.held h (omega arith) (omega arith) (punctual_received r l nobody s.below s.table.held g.synced) (λ n t. ends_append n (forwarded Issues es) ds t))
+      (punctual_released (r.span s.below) (span_over r s) (wait s) es (tidy s).table.events s.table.held h (omega arith) (omega arith) (punctual_received r l nobody s.below s.table.held g.synced) (λ n t. ends_append n (forwarded is_issue es) ds t))
 
   fixed_take : (s : State) (q : Request) (v : Option ℕ) → (meaning_over r).start (accepted v ((meaning_over r).taken s q) s) ≡ (meaning_over r).start s
   fixed_take s q None = ap (beginning s.delay) (l.start_fixed (Call.take q) s.below)

@@ -6,19 +6,14 @@ use Rattle.interface.specs.Coded.{coded}
 use Rattle.interface.specs.Codec.{Codec, number_codec, both}
 use Rattle.interface.specs.Emptied.{emptied}
 use Rattle.interface.specs.declared.Request.{Request}
-use Rattle.layer.specs.declared.forward.Forward.TheVariants.{Issues}
+use Rattle.layer.specs.Forwards.{is_issue}
 use Rattle.layer.specs.Entries.{reading}
-use Rattle.layer.specs.Contents.{Contents, contents, empty, admitted, gathered, all_advanced, released, collected, contents_codec}
-use Rattle.level.specs.declared.level.Level.{Level}
+use Rattle.layer.specs.Contents.{Contents, empty, admitted, gathered, all_advanced, released, collected, contents_codec}
 
 pub record State : Type 0 where
   pub delay : ℕ
   pub table : Contents
   pub below : List ℕ
-
--- a level's state, over what is read as the state below
-abbrev pub view : {C : Type 0} → (C → List ℕ) → Level C → State
-view below l = record { delay = l.delay; table = contents l.table; below = below l.below }
 
 -- nothing is held, and nothing is ready
 abbrev pub beginning : ℕ → List ℕ → State
@@ -39,7 +34,7 @@ taken_over m s q = record { delay = s.delay; table = admitted s.table q; below =
 abbrev pub stepped_over : Meaning (List ℕ) → State → List ℕ → State
 stepped_over m s b = record {
   delay = s.delay;
-  table = released (wait s) (all_advanced (gathered Issues (m.ready b) s.table));
+  table = released (wait s) (all_advanced (gathered is_issue (m.ready b) s.table));
   below = emptied m (m.ready b) b;
 }
 

@@ -11,8 +11,8 @@ use Rattle.model.specs.Ticks.{still, flying, Tables, put, is_still, alike, after
 use Rattle.model.specs.declared.Letter.TheVariants as letter
 use Rattle.model.specs.declared.Line.{Line}
 use Rattle.model.specs.declared.Notice.{Notice}
-use Rattle.model.specs.declared.Payload.TheVariants.{Real}
-use Rattle.model.specs.declared.Payload.{Payload}
+use Rattle.model.specs.Payloads.{real}
+use Rattle.model.specs.Payloads.{Payload}
 
 -- a setting: open with domain and share, lane with domain, vertices, edges and rest, first with a number
 pub data Setting : Type 0 where
@@ -141,7 +141,7 @@ taken_open m x d b k p slot = record {
 -- the state after an accepted submit, by the domain's role
 unfoldable pub submitted : Meaning (List ℕ) → Running → ℕ → ℕ → Kind → ℕ → Role → Running
 submitted m x d b k row unset = x
-submitted m x d b k row (opened share) = taken_open m x d b k (Real row (x.serial d)) (slot_in_turn d share (x.serial d))
+submitted m x d b k row (opened share) = taken_open m x d b k (real row (x.serial d)) (slot_in_turn d share (x.serial d))
 submitted m x d b k row (protected ps) = enqueued x d b k row
 
 -- the T line of an open request stands in the bus record at its place, with the next tick's number

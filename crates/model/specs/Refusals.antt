@@ -2,6 +2,8 @@
 use Rattle.std.specs.Prelude.{ℕ, Some, None, Ok, Err, Option, Result}
 use Rattle.model.specs.declared.Refusal.TheVariants as refusal
 use Rattle.model.specs.declared.Refusal.{Refusal}
+use Rattle.patterns.specs.declared.setting.LaneRefusal.{LaneRefusal}
+use Rattle.patterns.specs.declared.setting.LaneRefusal.TheVariants as lane
 
 -- the number by which each refusal is known
 abbrev pub number : Refusal → ℕ
@@ -26,3 +28,11 @@ number refusal.LastTick = 16
 abbrev pub refused : {T : Type 0} → Result T Refusal → Option ℕ
 refused (Ok x) = None
 refused (Err e) = Some (number e)
+
+-- the refusal of a call whose lane is refused, which has the same number
+abbrev pub refusal_of : LaneRefusal → Refusal
+refusal_of lane.Domain = refusal.DomainTaken
+refusal_of lane.Count = refusal.BadCount
+refusal_of lane.Bank = refusal.VertexBank
+refusal_of lane.Edge = refusal.BadEdge
+refusal_of lane.Places = refusal.NoPlaces

@@ -13,8 +13,7 @@ use Rattle.model.specs.declared.Letter.TheVariants as letter
 use Rattle.model.specs.declared.Letter.{Letter}
 use Rattle.model.specs.declared.Line.{Line}
 use Rattle.model.specs.declared.Notice.{Notice}
-use Rattle.model.specs.declared.Payload.TheVariants.{Fake, Real}
-use Rattle.model.specs.declared.Payload.{Payload}
+use Rattle.model.specs.Payloads.{Payload, fake, real}
 use Rattle.model.specs.declared.Waiting.{Waiting}
 
 -- how a slot stands: a vertex is still, flying, or done at a tick; a slot of an open domain is free (still) or flying
@@ -52,8 +51,8 @@ written out f (x ∷ xs) b = out x b ++ written out f xs (f x b)
 
 -- a fake has row 0
 abbrev pub row_of : Payload → ℕ
-row_of Fake = 0
-row_of (Real row serial) = row
+row_of None = 0
+row_of (Some r) = r.row
 
 -- the line of a slot in flight; a slot that is not has none
 abbrev pub line_of : Letter → ℕ → ℕ → Stage → List Line
@@ -63,8 +62,8 @@ line_of l n slot (done m) = []
 
 -- the notice of a real request; a fake has none
 abbrev pub payload_notice : ℕ → ℕ → Payload → List Notice
-payload_notice n d Fake = []
-payload_notice n d (Real row serial) = record { tick = n; domain = d; serial = serial } ∷ []
+payload_notice n d None = []
+payload_notice n d (Some r) = record { tick = n; domain = d; serial = r.serial } ∷ []
 
 -- the notice of a slot in flight
 abbrev pub notice_of : ℕ → ℕ → Stage → List Notice
@@ -164,8 +163,8 @@ matches b k w = alike w.bank w.kind b k
 
 -- the oldest queued request with this bank and kind, else a fake
 unfoldable pub oldest : ℕ → Kind → List Waiting → Payload
-oldest b k [] = Fake
-oldest b k (w ∷ ws) = cond (matches b k w) (Real w.row w.serial) (oldest b k ws)
+oldest b k [] = fake
+oldest b k (w ∷ ws) = cond (matches b k w) (real w.row w.serial) (oldest b k ws)
 
 -- the queue without it
 unfoldable pub without : ℕ → Kind → List Waiting → List Waiting

@@ -11,13 +11,14 @@ use Rattle.interface.proofs.Codes.{lawful_coded}
 use Rattle.interface.proofs.Slots.{Apart, apart_map, apart_dropped, apart_append, length_dropped, some_entries, map_append, Traced, traced_append, collected_held}
 use Rattle.interface.proofs.Runs.{reached_keeps}
 use Rattle.interface.proofs.Takes.{take_ok}
-use Rattle.layer.specs.declared.forward.Forward.TheVariants.{All}
+use Rattle.layer.specs.Forwards.{everything, forwarded}
 use Rattle.layer.specs.Entries.{new_entry, slot_of_entry, done_below, updated, advanced, reading}
-use Rattle.layer.specs.Forwards.{forwarded}
-use Rattle.layer.specs.Contents.{all_added, collected}
+use Rattle.holder.specs.Holding.{all_added}
+use Rattle.layer.specs.Contents.{collected}
 use Rattle.layer.proofs.Tables.{contents_path, map_fuse, updated_append}
 use Rattle.layer.proofs.Receiving.{has, moved, nobody, EachProper, proper_all}
-use Rattle.layer.proofs.Counts.{all_added_is, forwarded_all, few_events}
+use Rattle.holder.proofs.Holdings.{all_added_is}
+use Rattle.layer.proofs.Counts.{forwarded_all, few_events}
 use Rattle.layer.proofs.Readiness.{Ready, ready_append, ready_issue, ready_dropped}
 use Rattle.layer.proofs.Synced.{Synced, map_moved, new_reading, events_below, below_after, span_after, span_step, start_step, synced_start, synced_take, synced_other, synced_drop, synced_step, proper_received, none_received, punctual_received}
 use Rattle.pair.specs.Pair.{State, beginning, to_first, span_of, meaning_of, pair_codes, pair_of, pair_back, pair_meaning}
@@ -156,8 +157,8 @@ module _ (m n : Meaning (List ℕ)) (k : Lawful m) (l : Lawful n) (short : (s : 
       state_path (r.stepped s) (tidy s)
       (contents_path (r.stepped s).table (tidy s).table
       (ap (map advanced) (map_fuse (updated ds) (updated es) (updated (es ++ ds)) ws (updated_append es ds)) ∙ map_fuse advanced (updated (es ++ ds)) (moved (es ++ ds)) ws (λ w. refl))
-      (ap (λ o. all_added (forwarded All ds) (all_added (forwarded All es) o)) e
-      ∙ ap (λ x. all_added x (all_added (forwarded All es) [])) (forwarded_all ds)
+      (ap (λ o. all_added (forwarded everything ds) (all_added (forwarded everything es) o)) e
+      ∙ ap (λ x. all_added x (all_added (forwarded everything es) [])) (forwarded_all ds)
       ∙ ap (λ x. all_added ds (all_added x [])) (forwarded_all es)
       ∙ ap (all_added ds) (all_added_is es [] (omega arith))
       ∙ all_added_is ds es (omega arith)))

@@ -6,19 +6,14 @@ use Rattle.interface.specs.Coded.{coded}
 use Rattle.interface.specs.Codec.{Codec, number_codec, many, both}
 use Rattle.interface.specs.Emptied.{emptied}
 use Rattle.interface.specs.declared.Request.{Request}
-use Rattle.layer.specs.declared.forward.Forward.TheVariants.{All}
+use Rattle.layer.specs.Forwards.{everything}
 use Rattle.layer.specs.Entries.{reading}
-use Rattle.layer.specs.Contents.{Contents, contents, empty, admitted, gathered, all_advanced, collected, contents_codec}
-use Rattle.pair.specs.declared.pair.Pair.{Pair}
+use Rattle.layer.specs.Contents.{Contents, empty, admitted, gathered, all_advanced, collected, contents_codec}
 
 pub record State : Type 0 where
   pub table : Contents
   pub first : List ℕ
   pub second : List ℕ
-
--- a pair's state, over what is read as the states of the two
-abbrev pub view : {A B : Type 0} → (A → List ℕ) → (B → List ℕ) → Pair A B → State
-view first second p = record { table = contents p.table; first = first p.first; second = second p.second }
 
 -- nothing is held, and nothing is ready
 abbrev pub beginning : List ℕ → List ℕ → State
@@ -42,7 +37,7 @@ taken_of m n s q = record {
 -- after the steps of the two, which left a and b: the events of the first, and then those of the second
 abbrev pub stepped_of : Meaning (List ℕ) → Meaning (List ℕ) → State → List ℕ → List ℕ → State
 stepped_of m n s a b = record {
-  table = all_advanced (gathered All (n.ready b) (gathered All (m.ready a) s.table));
+  table = all_advanced (gathered everything (n.ready b) (gathered everything (m.ready a) s.table));
   first = emptied m (m.ready a) a;
   second = emptied n (n.ready b) b;
 }

@@ -1,5 +1,5 @@
 -- What is known of a lane that passed its checks.
-use Rattle.std.proofs.Common.{◌≡◌, ℕ, zero, suc, ◌+◌, ◌<◌, ◌≤◌, Bool, true, false, not, ◌||◌, ltb, leb, List, [], ◌∷◌, ◌++◌, length, get_or, Some, None, Option, sym, refl, ap, ◌∙◌, arith, length-append, ltb-false, le-leb, leb-false, leb-true}
+use Rattle.std.proofs.Common.{◌≡◌, ℕ, zero, suc, ◌+◌, ◌<◌, ◌≤◌, Bool, true, false, not, ◌||◌, ltb, leb, List, [], ◌∷◌, ◌++◌, length, get_or, Some, None, Option, sym, refl, ap, ◌∙◌, arith, length-append, ltb-false, leb-false, leb-true}
 use borrow.Author.Tests.{not-false, lt-leb}
 use Rattle.std.proofs.lemmas.Bool.{and_parts, or_parts}
 use Rattle.interface.specs.Meaning.{any, check, accepted}
@@ -105,9 +105,6 @@ pub good_shape : (lanes free : ℕ) (vs : List VertexSetting) (es : List EdgeSet
 good_shape lanes free vs es rest e = shape_passes vs es rest _ (passes (leb 8 lanes) 4 _ (sym e)).1
 
 module _ (t : List (List LaneView)) (d free : ℕ) (vs : List VertexSetting) (es : List EdgeSetting) (rest : ℕ) where
-  pub no_domain : length t ≤ d → Some 2 ≡ table_refusal t d free vs es rest
-  no_domain le = sym (ap (λ b. check b 2 (lane_refusal (length (get_or t d [])) free vs es rest)) (le-leb (length t) d le))
-
   pub in_domain : (ls : List LaneView) (r : Option ℕ) → d < length t → ls ≡ get_or t d [] → r ≡ lane_refusal (length ls) free vs es rest → r ≡ table_refusal t d free vs es rest
   in_domain ls r lt e is =
       is

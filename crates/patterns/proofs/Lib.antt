@@ -1,3 +1,4 @@
+pub mod Latest
 pub mod Looks
 pub mod Releases
 pub mod Ends

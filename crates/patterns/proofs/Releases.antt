@@ -4,7 +4,7 @@ use Rattle.std.proofs.lemmas.List.{at_drop_more, at_drop_all}
 use Rattle.std.proofs.lemmas.Bool.{cond-true, cond-false}
 use Rattle.std.specs.Option.{option_map}
 use Rattle.patterns.specs.declared.edge.Edge.{Edge}
-use Rattle.patterns.specs.Ticks.{later_of}
+use Rattle.patterns.proofs.Latest.{later_of}
 use Rattle.patterns.specs.Due.{later, greatest, greatest_or, comes_into, incoming, release}
 
 -- the greatest of what there is so far and what comes

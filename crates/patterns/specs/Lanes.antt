@@ -1,7 +1,6 @@
 -- A lane as plain values: when its vertices are due, and its rounds.
-use Rattle.std.specs.Prelude.{ℕ, zero, suc, List, [], ◌∷◌, map, length, Some, None, vec_items, Option, slice_index_or}
+use Rattle.std.specs.Prelude.{ℕ, zero, suc, List, [], ◌∷◌, map, length, Some, None, Option, slice_index_or}
 use Rattle.patterns.specs.declared.edge.Edge.{Edge}
-use Rattle.patterns.specs.declared.lane.Lane.{Lane}
 use Rattle.patterns.specs.declared.vertex.Vertex.{Vertex}
 use Rattle.patterns.specs.declared.vertex.VertexEvent.{VertexEvent}
 use Rattle.patterns.specs.declared.vertex.VertexEvent.TheVariants.{NewRound}
@@ -17,9 +16,6 @@ pub record LaneView : Type 0 where
   pub edges : List Edge
   pub rest : ℕ
   pub start : ℕ
-
-abbrev pub lane_view : Lane → LaneView
-lane_view l = record { vertices = vec_items l.vertices; edges = vec_items l.edges; rest = l.rest; start = l.start }
 
 -- a lane as it is set, before its first start
 abbrev pub lane_of : List VertexSetting → List EdgeSetting → ℕ → LaneView

@@ -63,32 +63,33 @@ impl EdgeSetting {
     }
 }
 
-// Why a lane is refused.
+// A lane: its vertices and edges in the order of adding, and its rest.
 #[derive(Clone, Copy)]
+pub struct LaneSetting<'a> {
+    pub vertices: &'a [VertexSetting],
+    pub edges: &'a [EdgeSetting],
+    pub rest: u64,
+}
+
+// Why a lane is refused, with the number by which each refusal is known.
+#[derive(Clone, Copy, PartialEq, Eq, Debug)]
 pub enum LaneRefusal {
     // a domain above 7
-    Domain,
+    Domain = 2,
     // the domain has 8 lanes already, or the lane has not 1 to 8 vertices
-    Count,
+    Count = 4,
     // a vertex's bank is above 7
-    Bank,
+    Bank = 5,
     // a bad edge, or a rest above 1,000
-    Edge,
+    Edge = 6,
     // more vertices than there are free places
-    Places,
+    Places = 7,
 }
 
 impl LaneRefusal {
-    // The number by which the refusal is known.
     pub fn number(self) -> u8
         ensures { result ≡ number self }
     {
-        match self {
-            LaneRefusal::Domain => 2,
-            LaneRefusal::Count => 4,
-            LaneRefusal::Bank => 5,
-            LaneRefusal::Edge => 6,
-            LaneRefusal::Places => 7,
-        }
+        self as u8
     }
 }

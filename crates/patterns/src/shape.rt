@@ -1,55 +1,47 @@
 // The checks of a lane that is to be added.
 ghost use Rattle.std.specs.Prelude.{◌≡◌, []};
-ghost use Rattle.std.specs.Option.{option_map};
 ghost use Rattle.interface.specs.Meaning.{any};
-ghost use Rattle.patterns.specs.Shape.{number, high_bank, same_pair, bad_edge, bad_edges, lane_refusal};
+ghost use Rattle.patterns.specs.Shape.{refused, high_bank, same_pair, bad_edge, bad_edges, lane_refusal};
 
-use crate::setting::{EdgeSetting, LaneRefusal, VertexSetting};
+use crate::domain::MAX_LANES;
+use crate::lane::{MAX_EDGES, MAX_VERTICES};
+use crate::setting::{EdgeSetting, LaneRefusal, LaneSetting, VertexSetting};
 
-// Why a lane is refused, if it is: its domain has so many lanes already, and so many places are free.
-pub fn lane_refusal(
-    lanes: usize,
-    free: usize,
-    vertices: &[VertexSetting],
-    edges: &[EdgeSetting],
-    rest: u64,
-) -> Option<LaneRefusal>
-    ensures { option_map number result ≡ lane_refusal lanes free vertices.now edges.now rest }
+// The greatest weight of an edge, and the greatest rest.
+const MAX_WAIT: u64 = 1_000;
+
+// Refuses a lane where its domain has so many lanes already, and so many places are free.
+pub fn check_lane(lanes: usize, free: usize, lane: LaneSetting) -> Result<(), LaneRefusal>
+    ensures { refused result ≡ lane_refusal lanes free lane.entry.vertices.now lane.entry.edges.now lane.entry.rest }
 {
-    if lanes >= 8 {
-        return Some(LaneRefusal::Count);
+    let vertices = lane.vertices.len();
+    if lanes >= MAX_LANES || vertices < 1 || vertices > MAX_VERTICES {
+        return Err(LaneRefusal::Count);
     }
-    if vertices.len() < 1 || vertices.len() > 8 {
-        return Some(LaneRefusal::Count);
+    if has_high(lane.vertices) {
+        return Err(LaneRefusal::Bank);
     }
-    if has_high(vertices) {
-        return Some(LaneRefusal::Bank);
+    if has_bad(lane.edges, vertices) || lane.rest > MAX_WAIT {
+        return Err(LaneRefusal::Edge);
     }
-    if has_bad(edges, vertices.len()) || rest > 1_000 {
-        return Some(LaneRefusal::Edge);
+    if vertices > free {
+        return Err(LaneRefusal::Places);
     }
-    if vertices.len() > free {
-        return Some(LaneRefusal::Places);
-    }
-    None
+    Ok(())
 }
 
 fn has_high(vertices: &[VertexSetting]) -> bool
     ensures { result ≡ any high_bank vertices.now }
 {
-    for vertex in vertices {
-        if vertex.is_high() {
-            return true;
-        }
-    }
-    false
+    vertices.iter().any(|vertex| vertex.is_high())
 }
 
 fn has_bad(edges: &[EdgeSetting], vertices: usize) -> bool
     ensures { result ≡ bad_edges vertices [] edges.now }
 {
-    for i in 0..edges.len() {
-        if is_bad(&edges[i], vertices, &edges[0..i]) {
+    // A loop, since the proof of an `any` with the edges before each one does not close.
+    for (number, edge) in edges.iter().enumerate() {
+        if is_bad(edge, vertices, &edges[..number]) {
             return true;
         }
     }
@@ -62,18 +54,13 @@ fn is_bad(edge: &EdgeSetting, vertices: usize, earlier: &[EdgeSetting]) -> bool
 {
     edge.target <= edge.source
         || edge.target >= vertices as u64
-        || edge.weight > 1_000
+        || edge.weight > MAX_WAIT
         || has_pair(earlier, edge)
-        || earlier.len() >= 16
+        || earlier.len() >= MAX_EDGES
 }
 
 fn has_pair(earlier: &[EdgeSetting], edge: &EdgeSetting) -> bool
     ensures { result ≡ any (same_pair edge.now) earlier.now }
 {
-    for other in earlier {
-        if edge.same_pair(other) {
-            return true;
-        }
-    }
-    false
+    earlier.iter().any(|other| edge.same_pair(other))
 }

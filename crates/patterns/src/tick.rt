@@ -1,10 +1,12 @@
 // The number of a tick.
 ghost use Rattle.std.specs.Prelude.{◌≡◌, ◌+◌, ◌^◌, ◌≤◌};
 ghost use Rattle.std.specs.Option.{option_map};
-ghost use Rattle.patterns.specs.Ticks.{tick_number, later_of};
+ghost use Rattle.patterns.specs.Ticks.{tick_number};
+
+const LAST: u64 = 1_000_000_000_000_000_000;
 
 // At most 10^18, so that a weight or a rest can be added in 64 bits.
-#[derive(Clone, Copy)]
+#[derive(Clone, Copy, PartialEq, Eq, PartialOrd, Ord)]
 pub struct Tick {
     pub number: u64,
     ghost bound: { number ≤ 10 ^ 18 },
@@ -15,7 +17,7 @@ impl Tick {
     pub fn new(number: u64) -> Option<Tick>
         ensures { option_map (λ t. t.number) result ≡ tick_number number }
     {
-        if number > 1_000_000_000_000_000_000 {
+        if number > LAST {
             return None;
         }
         Some(Tick { number })
@@ -26,15 +28,5 @@ impl Tick {
         ensures { result ≡ self.number + ticks }
     {
         self.number + ticks as u64
-    }
-
-    // The later of this tick and what there is so far.
-    pub(crate) fn later_of(self, so_far: Option<Tick>) -> Tick
-        ensures { result.number ≡ later_of (option_map (λ t. t.number) so_far) self.number }
-    {
-        match so_far {
-            Some(other) if other.number > self.number => other,
-            Some(_) | None => self,
-        }
     }
 }

@@ -4,7 +4,7 @@ ghost use Rattle.std.specs.Option.{option_map};
 ghost use Rattle.patterns.specs.Moves.{moved, done_tick};
 
 use crate::tick::Tick;
-use interface::Kind;
+use interface::{Access, Kind};
 
 // Where a vertex stands in its lane's round.
 #[derive(Clone, Copy)]
@@ -44,6 +44,15 @@ impl Vertex {
             (VertexState::Flying, VertexEvent::Done(tick)) => self.state = VertexState::Done(tick),
             (VertexState::Done(_), VertexEvent::NewRound) => self.state = VertexState::Still,
             _ => {}
+        }
+    }
+
+    pub fn access(&self) -> Access
+        ensures { result ≡ record { bank = self.now.bank; kind = self.now.kind } }
+    {
+        Access {
+            bank: self.bank,
+            kind: self.kind,
         }
     }
 

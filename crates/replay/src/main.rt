@@ -3,7 +3,7 @@
 #![tactic(auto)]
 
 use anyhow::anyhow;
-use arrivals::{Arrival, Complaint, admit, drain, read_arrival};
+use arrivals::{Arrival, admit, drain, read_arrival};
 use first_come::FirstCome;
 use interface::{Controller, Event, Kind};
 use level::Level;
@@ -17,17 +17,7 @@ const STEPS: u64 = 100_000_000;
 // The slot of a line is its number, from 0.
 const SLOTS: usize = 512;
 
-fn text_of(complaint: Complaint) -> &'static str {
-    match complaint {
-        Complaint::NoToken => "a byte or a number that may not stand there",
-        Complaint::NoNumber => "a number is wanted",
-        Complaint::NoKind => "R or W is wanted",
-        Complaint::TooLate => "a step above 1,000,000",
-        Complaint::TooHigh => "a bank or a domain above 7",
-        Complaint::TooLong => "something follows the domain",
-    }
-}
-
+// The words of this program, which are not the letters that a kind prints itself by.
 fn name_of(kind: Kind) -> &'static str {
     match kind {
         Kind::Read => "read",
@@ -49,8 +39,7 @@ fn read_all(rt: &HostRuntime) -> anyhow::Result<Vec<Arrival>> {
         match read_arrival(text.as_bytes(), slot as u16) {
             Ok(arrival) => all.push(arrival)?,
             Err(complaint) => {
-                let text = text_of(complaint);
-                return Err(anyhow!(format!(in heap; "line {number}: {text}")?));
+                return Err(anyhow!(format!(in heap; "line {number}: {complaint}")?));
             }
         }
     }
@@ -83,8 +72,8 @@ fn pass<C: Controller>(
     let _ = controller.step();
     let count = drain(controller, &mut events);
     let mut ended: usize = 0;
-    for (i, event) in events.iter().enumerate() {
-        if i < count && show(rt, step, *event, arrivals)? {
+    for event in events.iter().take(count) {
+        if show(rt, step, *event, arrivals)? {
             ended = ended.saturating_add(1);
         }
     }
@@ -109,7 +98,7 @@ fn run<C: Controller>(
     Err(anyhow!("not finished after 100,000,000 steps"))
 }
 
-// Which controller is run.
+// Which controller is run. An enum and one arm for each, since every kind of controller is a type of its own.
 #[derive(Drop)]
 enum Choice {
     Come,

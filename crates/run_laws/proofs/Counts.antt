@@ -1,5 +1,5 @@
 -- A tick writes at most 96 lines and 32 notices.
-use Rattle.std.proofs.Common.{◌≡◌, ℕ, ◌+◌, ◌≤◌, Bool, true, false, cond, ◌||◌, eqb, List, [], ◌∷◌, length, sym, refl, ap, ◌∙◌, subst, arith}
+use Rattle.std.proofs.Common.{◌≡◌, ℕ, ◌+◌, ◌≤◌, Bool, true, false, cond, ◌||◌, eqb, List, [], ◌∷◌, Some, None, length, sym, refl, ap, ◌∙◌, subst, arith}
 use Rattle.std.proofs.lemmas.List.{length-append}
 use Rattle.std.proofs.lemmas.Bool.{eq-eqb, true≢false}
 use Rattle.interface.specs.Lawful.{Lawful, Standing, standing, slot_of, events_of, Proper}
@@ -9,7 +9,6 @@ use Rattle.model.specs.Calls.{Running}
 use Rattle.model.specs.Settings.{Settings, Vertex}
 use Rattle.model.specs.Ticks.{Stage, still, flying, done, Tables, written, line_of, notice_of, event_line, event_notice, take_line, completed, departed, step_events, after_rounds, lines, notices}
 use Rattle.model.specs.declared.Letter.{Letter}
-use Rattle.model.specs.declared.Payload.TheVariants.{Fake, Real}
 use Rattle.run_laws.proofs.Holding.{Controller, finishes, places, finishes_some, absent_none, proper_held}
 use Rattle.run_laws.proofs.Invariant.{Inv, controller_2, departing, pass}
 use Rattle.run_laws.proofs.Room.{has, Distinct, pigeonhole, held_slots, has_held, length_held}
@@ -124,8 +123,8 @@ length_line l n t (done m) = omega arith
 
 length_note : (n t : ℕ) (x : Stage) → length (notice_of n t x) ≤ 1
 length_note n t still = omega arith
-length_note n t (flying b k Fake) = omega arith
-length_note n t (flying b k (Real row i)) = omega arith
+length_note n t (flying b k None) = omega arith
+length_note n t (flying b k (Some w)) = omega arith
 length_note n t (done m) = omega arith
 
 written_few : {A O : Type 0} (out : A → Tables → List O) (f : A → Tables → Tables) → ((x : A) (b : Tables) → length (out x b) ≤ 1) → (xs : List A) (b : Tables) → length (written out f xs b) ≤ length xs

@@ -8,7 +8,7 @@ use Rattle.patterns.specs.Due.{all_weights, later}
 use Rattle.patterns.specs.declared.edge.Edge.{Edge}
 use Rattle.model.specs.Settings.{Vertex}
 use Rattle.model.specs.Ticks.{Stage, done, done_tick, finished, flying, is_due, is_still, still}
-use Rattle.model.specs.declared.Payload.{Payload}
+use Rattle.model.specs.Payloads.{Payload}
 use Rattle.run_laws.proofs.Lanes.{plus, greatest_of, Source, due_from, last_done, last_from, sources_into}
 
 abbrev pub weigh : ℕ → List Edge → ℕ

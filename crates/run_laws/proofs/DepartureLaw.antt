@@ -14,7 +14,7 @@ use Rattle.model.specs.Settings.{Role, unset, opened, protected, Settings, role_
 use Rattle.model.specs.Ticks.{Stage, flying, done_tick, is_still, is_due, lane_end, finished, renewed, written, event_line, take_line, completed, departed, through, step_events, after_tick, controller_after, taken_all, lines}
 use Rattle.model.specs.declared.Letter.TheVariants as letter
 use Rattle.model.specs.declared.Line.{Line}
-use Rattle.model.specs.declared.Payload.TheVariants.{Real}
+use Rattle.model.specs.Payloads.{real}
 use Rattle.run_laws.specs.Departures.{is_T, is_D, line_ticks, takes_of, dones_of, Departs}
 use Rattle.run_laws.specs.Laws.{DepartureLawOf}
 use Rattle.run_laws.specs.Runs.{Entry, trace, run, set_by, settings, made_from, tick_count, strike, bus_record}
@@ -143,7 +143,7 @@ module _ (r : Controller) (laws : Lawful r.meaning) (c : Settings) (sound : Soun
     unfolding submitted taken_open submit_lines
     open_agrees share is ℓ hℓ = subst (λ dn. LaneAt c.first (span r) (pattern_at c ℓ) (order ℓ) x.tick x.tick (x.tables.start ℓ) (λ i. (submitted r.meaning x d b k row (opened share)).tables.stage (slot_at ℓ i)) (λ i. left r (submitted r.meaning x d b k row (opened share)).controller (slot_at ℓ i)) (takes_of (ls ++ one) ℓ) dn) (sym (fun_ext same_dones))
         (lane_same c.first (span r) (pattern_at c ℓ) (order ℓ) x.tick x.tick (x.tables.start ℓ) (λ i. x.tables.stage (slot_at ℓ i)) (λ i. (submitted r.meaning x d b k row (opened share)).tables.stage (slot_at ℓ i)) (λ i. left r x.controller (slot_at ℓ i)) (λ i. left r (submitted r.meaning x d b k row (opened share)).controller (slot_at ℓ i)) (takes_of ls ℓ) (takes_of (ls ++ one) ℓ) (dones_of ls ℓ)
-        (λ i h. ap (λ t. cond t (flying b k (Real row (x.serial d))) (x.tables.stage (slot_at ℓ i))) (apart i h))
+        (λ i h. ap (λ t. cond t (flying b k (real row (x.serial d))) (x.tables.stage (slot_at ℓ i))) (apart i h))
         (λ i h f. open_left r laws c sound g.0.eight g.0.fit x d b k row share g.1 g.2 is low free (slot_at ℓ i) f)
         same_takes (agrees ℓ hℓ))
       where

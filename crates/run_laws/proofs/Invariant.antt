@@ -14,7 +14,7 @@ use Rattle.patterns.specs.declared.setting.VertexSetting.{VertexSetting}
 use Rattle.model.specs.Calls.{Running, ticked}
 use Rattle.model.specs.Settings.{Settings, Vertex, domain_of, is_open, lane_of, lane_vertices, pattern_at, vertices, vertices_from}
 use Rattle.model.specs.Ticks.{done_in, due_tick, lane_end, Stage, Tables, after_events, after_rounds, after_tick, controller_after, departed, departures, done, done_tick, finished, flying, is_due, is_still, leaves, renewed, rounds, step_events, still, taken_all, through}
-use Rattle.model.specs.declared.Payload.TheVariants.{Fake}
+use Rattle.model.specs.Payloads.{fake}
 use Rattle.run_laws.proofs.Deadlines.{Into, sources_fine, done_by, done_all, Fine, Mid, events_fine, left_fine, stay_fine, last_by, last_now, Newer, newer_finished, none≢some, some_is}
 use Rattle.run_laws.proofs.Departures.{is_flying, all_in, vertex_at, size, in_lane, in_vertices, apart_vertices, placed, leaving_in, leaving_apart, leaving_leave, completed_at, completed_start, departed_start, departed_out, departed_in}
 use Rattle.run_laws.proofs.Holding.{in_slots, Apart, Passed, passed, Free, AllHeld, all_held, Reached, finishes, holds, Controller, left, span, places}
@@ -33,7 +33,7 @@ pub record Inv (r : Controller) (c : Settings) (x : Running) : Type 0 where
   pub starts : (ℓ : ℕ) → ℓ < 64 → x.tables.start ℓ ≤ x.tick + (pattern_at c ℓ).rest
 
 -- a stage that flies is as good as any other that flies
-fine_flying : (span start : ℕ) (es : List Edge) (n i l : ℕ) (x : Stage) → is_flying x ≡ true → Fine span start es n i l (flying 0 Read Fake) → Fine span start es n i l x
+fine_flying : (span start : ℕ) (es : List Edge) (n i l : ℕ) (x : Stage) → is_flying x ≡ true → Fine span start es n i l (flying 0 Read fake) → Fine span start es n i l x
 fine_flying span start es n i l still e f = absurd (true≢false (sym e))
 fine_flying span start es n i l (flying b k c) e f = f
 fine_flying span start es n i l (done m) e f = absurd (true≢false (sym e))
@@ -301,7 +301,7 @@ module _ (r : Controller) (laws : Lawful r.meaning) (c : Settings) (sound : Soun
               let p = and_parts (is_still ((tables_2 r c x).stage (slot_at ℓ i))) _ (sym (departing_at ℓ i hℓ h) ∙ e) in
               let on_time = subst (λ z. Mid (span r) ((tables_2 r c x).start ℓ) (pattern_at c ℓ).edges x.tick i (left r (controller_2 r c x) (slot_at ℓ i)) z) (still_is ((tables_2 r c x).stage (slot_at ℓ i)) p.0) (mid.mids i h) in
               fine_flying (span r) ((tables_2 r c x).start ℓ) (pattern_at c ℓ).edges (suc x.tick) i _ ((through departed (departing r c x) (tables_2 r c x)).stage (slot_at ℓ i)) (departed_in (slot_at ℓ i) (departing r c x) (tables_2 r c x) (inl e))
-              (left_fine (span r) ((tables_2 r c x).start ℓ) (pattern_at c ℓ).edges (ℓ * 8) x.tick (size c ℓ) (tables_2 r c x).stage (λ u. left r (controller_2 r c x) (slot_at ℓ u)) (laws.span_least r.origin) mid.mids i h (sources_into (ℓ * 8) i (pattern_at c ℓ).edges) srcs 0 Read Fake on_time p.1 _ (taking.spanned (slot_at ℓ i) e))
+              (left_fine (span r) ((tables_2 r c x).start ℓ) (pattern_at c ℓ).edges (ℓ * 8) x.tick (size c ℓ) (tables_2 r c x).stage (λ u. left r (controller_2 r c x) (slot_at ℓ u)) (laws.span_least r.origin) mid.mids i h (sources_into (ℓ * 8) i (pattern_at c ℓ).edges) srcs 0 Read fake on_time p.1 _ (taking.spanned (slot_at ℓ i) e))
           go false e = rw (departed_out (slot_at ℓ i) (departing r c x) (tables_2 r c x) e)
               (fine_left (span r) ((tables_2 r c x).start ℓ) (pattern_at c ℓ).edges (suc x.tick) i (left r (controller_2 r c x) (slot_at ℓ i)) _ ((tables_2 r c x).stage (slot_at ℓ i)) (λ f. taking.lefts (slot_at ℓ i) (held_1 (slot_at ℓ i) ∙ sym (flies_2 (slot_at ℓ i)) ∙ f))
               (stay_fine (span r) ((tables_2 r c x).start ℓ) (pattern_at c ℓ).edges (ℓ * 8) x.tick (size c ℓ) (tables_2 r c x).stage (λ u. left r (controller_2 r c x) (slot_at ℓ u)) (laws.span_least r.origin) mid.mids i h (sources_into (ℓ * 8) i (pattern_at c ℓ).edges) srcs ((tables_2 r c x).stage (slot_at ℓ i)) (left r (controller_2 r c x) (slot_at ℓ i)) (mid.mids i h)

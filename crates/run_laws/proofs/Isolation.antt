@@ -13,7 +13,7 @@ use Rattle.model.specs.Calls.{Call, Running, State, begins, enqueued, new, next_
 use Rattle.model.specs.Settings.{blank, Role, Settings, domain_of, is_open, is_opened, opened, protected, role_of, unset}
 use Rattle.model.specs.Ticks.{Stage, Tables, completed, done, event_notice, flying, notice_of, notices, payload_notice, put, step_events, still}
 use Rattle.model.specs.declared.Notice.{Notice}
-use Rattle.model.specs.declared.Payload.TheVariants.{Fake, Real}
+use Rattle.model.specs.Payloads.{fake}
 use Rattle.run_laws.specs.Laws.{IsolationLawOf}
 use Rattle.run_laws.specs.Runs.{Answer, answer_of, answers, answers_from, answers_in, not_from, notice, others, result, run, trace}
 use Rattle.run_laws.proofs.Masks.{masked, tables_path, masked_still, mask, mask_completed, mask_written, tick_mask, controller_mask}
@@ -109,14 +109,14 @@ module _ (p : ℕ) where
     note_same : (n t : ℕ) (x : Stage) → for_d (notice_of n t (masked (from_p (domain_of t)) x)) ≡ for_d (notice_of n t x)
     note_same n t still = refl
     note_same n t (done m) = refl
-    note_same n t (flying b k Fake) = rw (cond_same (from_p (domain_of t)))
+    note_same n t (flying b k None) = rw (cond_same (from_p (domain_of t)))
       where
-        cond_same : (h : Bool) → cond h Fake Fake ≡ Fake
+        cond_same : (h : Bool) → cond h fake fake ≡ fake
         cond_same true = refl
         cond_same false = refl
-    note_same n t (flying b k (Real row i)) = go (from_p (domain_of t)) refl
+    note_same n t (flying b k (Some w)) = go (from_p (domain_of t)) refl
       where
-        go : (h : Bool) → from_p (domain_of t) ≡ h → for_d (payload_notice n (domain_of t) (cond h Fake (Real row i))) ≡ for_d (payload_notice n (domain_of t) (Real row i))
+        go : (h : Bool) → from_p (domain_of t) ≡ h → for_d (payload_notice n (domain_of t) (cond h fake (Some w))) ≡ for_d (payload_notice n (domain_of t) (Some w))
         go true z = rw (ne_eqb (domain_of t) d (λ w. ne (sym w ∙ eqb-true (domain_of t) p z)))
         go false z = refl
 

@@ -9,7 +9,7 @@ use Rattle.patterns.specs.Due.{due, round_end, next_start, longest_round}
 use Rattle.patterns.specs.declared.edge.Edge.{Edge}
 use Rattle.model.specs.Settings.{Pattern}
 use Rattle.model.specs.Ticks.{Stage, still, flying, done, done_tick, is_still, is_due, finished, renewed}
-use Rattle.model.specs.declared.Payload.TheVariants.{Fake}
+use Rattle.model.specs.Payloads.{fake}
 use Rattle.run_laws.specs.Departures.{nth, round_start, due_when, due_in_round, before, Departs}
 use Rattle.run_laws.proofs.Departures.{is_flying}
 use Rattle.run_laws.proofs.Rounds.{nth_append, nth_past, nth_last, nth_length, some_injective, Late, due_agree, due_new, end_agree, end_none, due_blank, start_stays, round_stays}
@@ -276,12 +276,12 @@ module _ (first span : ℕ) (p : Pattern) (order : AllByRecursion (λ (e : Edge)
     no_more : (i : ℕ) → goes i ≡ false → length (takes_3 i) ≡ length (tk i)
     no_more i e = ap (λ y. length (tk i ++ maybe y N)) e ∙ length_same (tk i)
 
-    flies : (i : ℕ) (x : Stage) → is_flying x ≡ true → Stands (suc N) (suc N) lane.round (left3 i) takes_3 dn i (flying 0 Read Fake) → Stands (suc N) (suc N) lane.round (left3 i) takes_3 dn i x
+    flies : (i : ℕ) (x : Stage) → is_flying x ≡ true → Stands (suc N) (suc N) lane.round (left3 i) takes_3 dn i (flying 0 Read fake) → Stands (suc N) (suc N) lane.round (left3 i) takes_3 dn i x
     flies i still e s = absurd (true≢false (sym e))
     flies i (flying b k c) e s = s
     flies i (done m) e s = absurd (true≢false (sym e))
 
-    leaves_now : (i : ℕ) → i < size_of → goes i ≡ true → (x : Stage) → stage i ≡ x → Stands (suc N) N lane.round (left i) tk dn i x → Stands (suc N) (suc N) lane.round (left3 i) takes_3 dn i (flying 0 Read Fake)
+    leaves_now : (i : ℕ) → i < size_of → goes i ≡ true → (x : Stage) → stage i ≡ x → Stands (suc N) N lane.round (left i) tk dn i x → Stands (suc N) (suc N) lane.round (left3 i) takes_3 dn i (flying 0 Read fake)
     leaves_now i h e still z s =
         let due-N = due_exact (due_in_round first p dn lane.round i) s.2 (ap (is_due N) (due_now i h) ∙ (and_parts (is_still (stage i)) (is_due N (due start (λ u. done_tick (stage u)) p.edges i)) (sym (goes-is i h) ∙ e)).1) in
         let sp = spanned i e in let sp0 = sp.0 in let sp1 = sp.1 in (

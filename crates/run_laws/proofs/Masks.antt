@@ -8,12 +8,12 @@ use Rattle.interface.specs.declared.Event.{Event}
 use Rattle.patterns.specs.Due.{due, next_start, round_end}
 use Rattle.model.specs.Settings.{Settings, Vertex, domain_of, lane_of, pattern_at, vertices}
 use Rattle.model.specs.Ticks.{Stage, Tables, after_events, after_rounds, after_tick, completed, controller_after, departed, departures, done, done_tick, done_in, lane_end, due_tick, finished, flying, is_due, is_still, leaves, leaving, oldest, payload_for, put, renewed, rounds, step_events, still, through, without, written}
-use Rattle.model.specs.declared.Payload.TheVariants.{Fake}
+use Rattle.model.specs.Payloads.{fake}
 use Rattle.model.specs.declared.Waiting.{Waiting}
 
 abbrev pub masked : Bool → Stage → Stage
 masked h still = still
-masked h (flying b k c) = flying b k (cond h Fake c)
+masked h (flying b k c) = flying b k (cond h fake c)
 masked h (done m) = done m
 
 abbrev pub hidden : Bool → List Waiting → List Waiting
@@ -99,7 +99,7 @@ module _ (h : ℕ → Bool) where
       refl
       (map_put (λ d q. hidden (h d) q) b.queue (domain_of v.slot) _ ∙ ap (put (λ d. hidden (h d) (b.queue d)) (domain_of v.slot)) (rest (h (domain_of v.slot))))
     where
-      payload : (t : Bool) → cond t Fake (oldest v.bank v.kind (b.queue (domain_of v.slot))) ≡ oldest v.bank v.kind (hidden t (b.queue (domain_of v.slot)))
+      payload : (t : Bool) → cond t fake (oldest v.bank v.kind (b.queue (domain_of v.slot))) ≡ oldest v.bank v.kind (hidden t (b.queue (domain_of v.slot)))
       payload true = refl
       payload false = refl
 

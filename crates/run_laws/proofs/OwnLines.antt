@@ -14,7 +14,7 @@ use Rattle.model.specs.Ticks.{Stage, still, flying, done, Tables, through, writt
 use Rattle.model.specs.declared.Letter.{Letter}
 use Rattle.model.specs.declared.Letter.TheVariants as letter
 use Rattle.model.specs.declared.Line.{Line}
-use Rattle.model.specs.declared.Payload.TheVariants.{Real}
+use Rattle.model.specs.Payloads.{real}
 use Rattle.run_laws.specs.Laws.{OwnLine, LineLawOf}
 use Rattle.run_laws.specs.Runs.{Entry, trace, run, set_by, settings, made_from, strike, bus_record}
 use Rattle.run_laws.proofs.Departures.{In, all_in, apart_vertices, in_here, leaving_leave, completed_at}
@@ -129,7 +129,7 @@ module _ (m : Meaning (List ℕ)) (c : Settings) (sound : Sound c) (v : Vertex) 
           let here : domain_of (slot_in_turn d share (x.serial d)) ≡ d = omega arith in
           true≢false (sym (ap is_opened is) ∙ ap (is_open c) (sym here ∙ ap domain_of e) ∙ all_in (λ w. is_open c (domain_of w.slot) ≡ false) v (vertices c) (closed c sound) inside)
 
-      go : (t : Bool) → eqb v.slot (slot_in_turn d share (x.serial d)) ≡ t → FliesAs v (cond t (flying b k (Real row (x.serial d))) (x.tables.stage v.slot))
+      go : (t : Bool) → eqb v.slot (slot_in_turn d share (x.serial d)) ≡ t → FliesAs v (cond t (flying b k (real row (x.serial d))) (x.tables.stage v.slot))
       go true e = absurd (apart (sym (eqb-true v.slot _ e)))
       go false e = f
   own_submit x d b k row (protected ps) is f = (tt, f)

@@ -11,15 +11,14 @@ use Rattle.interface.specs.declared.Kind.{Kind}
 use Rattle.model.specs.Settings.{Settings, Vertex, domain_of, is_open}
 use Rattle.model.specs.Ticks.{Stage, Tables, completed, departed, done, event_notice, finished, flying, matches, notice_of, oldest, payload_for, renewed, still, through, without, written}
 use Rattle.model.specs.declared.Notice.{Notice}
-use Rattle.model.specs.declared.Payload.TheVariants.{Fake, Real}
-use Rattle.model.specs.declared.Payload.{Payload}
+use Rattle.model.specs.Payloads.{Payload, real}
 use Rattle.model.specs.declared.Waiting.{Waiting}
 use Rattle.run_laws.proofs.Departures.{In}
 use Rattle.run_laws.proofs.Holding.{in_slots, Apart, finishes}
 
 abbrev pub loads : ℕ → Payload → Bool
-loads s Fake = false
-loads s (Real row i) = eqb i s
+loads s None = false
+loads s (Some w) = eqb w.serial s
 
 abbrev pub carries : ℕ → Stage → Bool
 carries s still = false
@@ -46,7 +45,7 @@ unfolding oldest
 absent_oldest b k s [] a = refl
 absent_oldest b k s (w ∷ q) a = go (matches b k w) (absent_oldest b k s q a.1)
   where
-    go : (x : Bool) → loads s (oldest b k q) ≡ false → loads s (cond x (Real w.row w.serial) (oldest b k q)) ≡ false
+    go : (x : Bool) → loads s (oldest b k q) ≡ false → loads s (cond x (real w.row w.serial) (oldest b k q)) ≡ false
     go true h = a.0
     go false h = h
 
@@ -72,7 +71,7 @@ pub goes : {b : ℕ} {k : Kind} {s j : ℕ} {q : List Waiting} (b' : ℕ) (k' : 
 unfolding oldest without
 goes {b} {k} {s} b' k' (here {j = j} {w = w} {q = q} e f a) = go (matches b' k' w) refl
   where
-    go : (x : Bool) → matches b' k' w ≡ x → ((loads s (cond x (Real w.row w.serial) (oldest b' k' q)) ≡ true) × Absent s (cond x q (w ∷ without b' k' q))) ⊎ Stays b k s j b' k' (w ∷ q)
+    go : (x : Bool) → matches b' k' w ≡ x → ((loads s (cond x (real w.row w.serial) (oldest b' k' q)) ≡ true) × Absent s (cond x q (w ∷ without b' k' q))) ⊎ Stays b k s j b' k' (w ∷ q)
     go true z = inl (e, a)
     go false z = inr (record {
       free = rw z (absent_oldest b' k' s q a);
@@ -81,13 +80,13 @@ goes {b} {k} {s} b' k' (here {j = j} {w = w} {q = q} e f a) = go (matches b' k' 
     })
 goes {b} {k} {s} b' k' (like {j = j} {w = w} {q = q} e f h) = go (matches b' k' w) refl (goes b' k' h)
   where
-    go : (x : Bool) → matches b' k' w ≡ x → Goes b k s j b' k' q → ((loads s (cond x (Real w.row w.serial) (oldest b' k' q)) ≡ true) × Absent s (cond x q (w ∷ without b' k' q))) ⊎ Stays b k s (suc j) b' k' (w ∷ q)
+    go : (x : Bool) → matches b' k' w ≡ x → Goes b k s j b' k' q → ((loads s (cond x (real w.row w.serial) (oldest b' k' q)) ≡ true) × Absent s (cond x q (w ∷ without b' k' q))) ⊎ Stays b k s (suc j) b' k' (w ∷ q)
     go true z m = inr (record { free = rw z e; waits = rw z (weaker h); nearer = λ p u. (j, refl, rw z h) })
     go false z (inl m) = inl (m.0, (e, m.1))
     go false z (inr m) = inr (record { free = rw z m.free; waits = rw z (like e f m.waits); nearer = λ p u. absurd (true≢false (sym f ∙ ap (λ v. matches v k w) (sym p) ∙ ap (λ v. matches b' v w) (sym u) ∙ z)) })
 goes {b} {k} {s} b' k' (past {j = j} {w = w} {q = q} e f h) = go (matches b' k' w) refl (goes b' k' h)
   where
-    go : (x : Bool) → matches b' k' w ≡ x → Goes b k s j b' k' q → ((loads s (cond x (Real w.row w.serial) (oldest b' k' q)) ≡ true) × Absent s (cond x q (w ∷ without b' k' q))) ⊎ Stays b k s j b' k' (w ∷ q)
+    go : (x : Bool) → matches b' k' w ≡ x → Goes b k s j b' k' q → ((loads s (cond x (real w.row w.serial) (oldest b' k' q)) ≡ true) × Absent s (cond x q (w ∷ without b' k' q))) ⊎ Stays b k s j b' k' (w ∷ q)
     go true z m = inr (record { free = rw z e; waits = rw z h; nearer = λ p u. absurd (true≢false (sym z ∙ ap (λ v. matches v k' w) p ∙ ap (λ v. matches b v w) u ∙ f)) })
     go false z (inl m) = inl (m.0, (e, m.1))
     go false z (inr m) = inr (record { free = rw z m.free; waits = rw z (past e f m.waits); nearer = λ p u. let y = m.nearer p u in (y.0, y.1, rw z (past e f y.2)) })
@@ -116,18 +115,18 @@ module _ (d s : ℕ) where
   not_it : (n t : ℕ) (x : Stage) → (domain_of t ≡ d → carries s x ≡ false) → pick (notice_of n t x) ≡ []
   not_it n t still h = refl
   not_it n t (done m) h = refl
-  not_it n t (flying b k Fake) h = refl
-  not_it n t (flying b k (Real row i)) h = go (eqb (domain_of t) d) refl
+  not_it n t (flying b k None) h = refl
+  not_it n t (flying b k (Some w)) h = go (eqb (domain_of t) d) refl
     where
-      go : (x : Bool) → eqb (domain_of t) d ≡ x → map (λ (m : Notice). m.tick) (cond (x && eqb i s) (record { tick = n; domain = domain_of t; serial = i } ∷ []) []) ≡ []
+      go : (x : Bool) → eqb (domain_of t) d ≡ x → map (λ (m : Notice). m.tick) (cond (x && eqb w.serial s) (record { tick = n; domain = domain_of t; serial = w.serial } ∷ []) []) ≡ []
       go true e = rw (h (eqb-true (domain_of t) d e))
       go false e = refl
 
   it : (n t : ℕ) (x : Stage) → domain_of t ≡ d → carries s x ≡ true → pick (notice_of n t x) ≡ n ∷ []
   it n t still e h = absurd (true≢false (sym h))
   it n t (done m) e h = absurd (true≢false (sym h))
-  it n t (flying b k Fake) e h = absurd (true≢false (sym h))
-  it n t (flying b k (Real row i)) e h = rw (eq-eqb (domain_of t) d e, h)
+  it n t (flying b k None) e h = absurd (true≢false (sym h))
+  it n t (flying b k (Some w)) e h = rw (eq-eqb (domain_of t) d e, h)
 
   carries_finished : (o : Bool) (n : ℕ) (x : Stage) → carries s (finished o n x) ≡ false
   carries_finished o n still = refl

@@ -15,7 +15,7 @@ use Rattle.model.specs.Ticks.{Stage, Tables, after_rounds, completed, departed, 
 use Rattle.model.specs.declared.Letter.TheVariants as letter
 use Rattle.model.specs.declared.Letter.{Letter}
 use Rattle.model.specs.declared.Line.{Line}
-use Rattle.model.specs.declared.Payload.TheVariants.{Fake, Real}
+use Rattle.model.specs.Payloads.{fake, real}
 use Rattle.run_laws.specs.Laws.{RecordLawOf}
 use Rattle.run_laws.specs.Runs.{Entry, Taking, bus_record, made, made_from, one_more, run, settings, strike, taking_of, tick_count, trace}
 use Rattle.run_laws.proofs.Masks.{masked, map_put, tables_path, mask, mask_completed, mask_departed, mask_written, tick_mask, controller_mask, rounds_mask, departures_mask}
@@ -67,7 +67,7 @@ module _ (r : Meaning (List ℕ)) (c : Settings) where
   -- what the bus shows of a row of open takings and ticks
   replay : Running → List Ev → List Line
   replay x [] = []
-  replay x (took d b k ∷ t) = record { letter = letter.T; tick = x.tick; domain = d; slot = open_slot x d; bank = b; kind = k; row = 0 } ∷ replay (taken_open r x d b k Fake (open_slot x d)) t
+  replay x (took d b k ∷ t) = record { letter = letter.T; tick = x.tick; domain = d; slot = open_slot x d; bank = b; kind = k; row = 0 } ∷ replay (taken_open r x d b k fake (open_slot x d)) t
   replay x (passed ∷ t) = struck (lines r c x.tick x.controller x.tables) ++ replay (ticked r c x) t
 
   public_ticked : (x : Running) → public (ticked r c x) ≡ ticked r c (public x)
@@ -91,10 +91,10 @@ module _ (r : Meaning (List ℕ)) (c : Settings) where
 
   -- a taking of an open domain
   module _ (x : Running) (d b : ℕ) (k : Kind) (row : ℕ) where
-    public_open : (share : ℕ) → role_of c d ≡ opened share → public (taken_open r x d b k (Real row (x.serial d)) (slot_in_turn d share (x.serial d))) ≡ taken_open r (public x) d b k Fake (open_slot (public x) d)
+    public_open : (share : ℕ) → role_of c d ≡ opened share → public (taken_open r x d b k (real row (x.serial d)) (slot_in_turn d share (x.serial d))) ≡ taken_open r (public x) d b k fake (open_slot (public x) d)
     unfolding taken_open
     public_open share e = rw e (running_path refl refl
-        (tables_path (map_put (λ j y. masked (all_hidden (domain_of j)) y) x.tables.stage (slot_in_turn d share (x.serial d)) (flying b k (Real row (x.serial d)))) refl refl)
+        (tables_path (map_put (λ j y. masked (all_hidden (domain_of j)) y) x.tables.stage (slot_in_turn d share (x.serial d)) (flying b k (real row (x.serial d)))) refl refl)
         (map_put (λ j y. cond (is_open c j) y 0) x.serial d (suc (x.serial d)) ∙ ap (put (λ j. cond (is_open c j) (x.serial j) 0) d) here))
       where
         here : cond (is_open c d) (suc (x.serial d)) 0 ≡ suc (x.serial d)
@@ -122,8 +122,8 @@ module _ (r : Meaning (List ℕ)) (c : Settings) where
       go ih unset e = ih x
       go ih (opened share) e =
           let slots : slot_in_turn d share (x.serial d) ≡ open_slot (public x) d = rw e in
-          ap (λ z. record { letter = letter.T; tick = x.tick; domain = d; slot = z; bank = b; kind = k; row = 0 } ∷ bus_record (trace r (running c (taken_open r x d b k (Real row (x.serial d)) (slot_in_turn d share (x.serial d)))) cs)) slots
-          ∙ ap (◌∷◌ (record { letter = letter.T; tick = x.tick; domain = d; slot = open_slot (public x) d; bank = b; kind = k; row = 0 })) (ih (taken_open r x d b k (Real row (x.serial d)) (slot_in_turn d share (x.serial d))) ∙ ap (λ z. replay z (row_of_run (trace r (running c (taken_open r x d b k (Real row (x.serial d)) (slot_in_turn d share (x.serial d)))) cs))) (public_open x d b k row share e))
+          ap (λ z. record { letter = letter.T; tick = x.tick; domain = d; slot = z; bank = b; kind = k; row = 0 } ∷ bus_record (trace r (running c (taken_open r x d b k (real row (x.serial d)) (slot_in_turn d share (x.serial d)))) cs)) slots
+          ∙ ap (◌∷◌ (record { letter = letter.T; tick = x.tick; domain = d; slot = open_slot (public x) d; bank = b; kind = k; row = 0 })) (ih (taken_open r x d b k (real row (x.serial d)) (slot_in_turn d share (x.serial d))) ∙ ap (λ z. replay z (row_of_run (trace r (running c (taken_open r x d b k (real row (x.serial d)) (slot_in_turn d share (x.serial d)))) cs))) (public_open x d b k row share e))
       go ih (protected patterns) e = ih (enqueued x d b k row) ∙ ap (λ z. replay z (row_of_run (trace r (running c (enqueued x d b k row)) cs))) (public_shut x d b k row (ap is_opened e))
   shown (ticks l m ∷ cs) x = by_refusal (λ u. struck u.bus ++ bus_record (trace r u.after cs) ≡ replay (public x) (ev_of (ticks l m) u.reply ++ row_of_run (trace r u.after cs))) (tick_refusal x l m) (running c x) (tick_outcome r c x)
       (λ k. shown cs x)

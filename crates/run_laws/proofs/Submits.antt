@@ -9,7 +9,7 @@ use Rattle.interface.specs.declared.Kind.{Kind}
 use Rattle.model.specs.Calls.{Running, enqueued, limit, role_refusal, slot_in_turn, submit_refusal, submitted, taken_open}
 use Rattle.model.specs.Settings.{is_unset, Role, Settings, Vertex, all_slots, domain_of, is_open, is_opened, lane_vertices, open_slots, opened, pattern_at, protected, role_of, share_of, slots_from, slots_of, unset}
 use Rattle.model.specs.Ticks.{Stage, done, done_tick, flying, is_still, put, still}
-use Rattle.model.specs.declared.Payload.TheVariants.{Real}
+use Rattle.model.specs.Payloads.{real}
 use Rattle.run_laws.proofs.Departures.{is_flying, size}
 use Rattle.run_laws.proofs.Holding.{holds, Controller, left, span, places, take_none, Taken, taken}
 use Rattle.run_laws.proofs.Invariant.{slot_at, Inv, fine_left, last_cong, slot_closed}
@@ -85,7 +85,7 @@ module _ (r : Controller) (laws : Lawful r.meaning) (c : Settings) (sound : Soun
         let here : domain_of (slot_in_turn e share (x.serial e)) ≡ e = omega arith in
         true≢false (sym (ap is_opened is) ∙ ap (is_open c) (sym here ∙ ap domain_of (sym z)) ∙ slot_closed r laws c sound ℓ i h))
 
-    keep_open : Inv r c (taken_open r.meaning x e b k (Real row (x.serial e)) (slot_in_turn e share (x.serial e)))
+    keep_open : Inv r c (taken_open r.meaning x e b k (real row (x.serial e)) (slot_in_turn e share (x.serial e)))
     unfolding taken_open
     keep_open = record {
       reached = one.again;
@@ -96,23 +96,23 @@ module _ (r : Controller) (laws : Lawful r.meaning) (c : Settings) (sound : Soun
       starts = inv.starts;
     }
       where
-        held : (t : ℕ) (y : Bool) → eqb t (slot_in_turn e share (x.serial e)) ≡ y → (is_flying (x.tables.stage t) || eqb (slot_in_turn e share (x.serial e)) t) ≡ is_flying (cond y (flying b k (Real row (x.serial e))) (x.tables.stage t))
+        held : (t : ℕ) (y : Bool) → eqb t (slot_in_turn e share (x.serial e)) ≡ y → (is_flying (x.tables.stage t) || eqb (slot_in_turn e share (x.serial e)) t) ≡ is_flying (cond y (flying b k (real row (x.serial e))) (x.tables.stage t))
         held t true z = or_right (is_flying (x.tables.stage t)) _ (eq-eqb (slot_in_turn e share (x.serial e)) t (sym (eqb-true t _ z)))
         held t false z = rw (ne_eqb (slot_in_turn e share (x.serial e)) t (λ w. eqb-false t _ z (sym w))) (or_none (is_flying (x.tables.stage t)))
 
-        same_done : (t : ℕ) (y : Bool) → eqb t (slot_in_turn e share (x.serial e)) ≡ y → done_tick (cond y (flying b k (Real row (x.serial e))) (x.tables.stage t)) ≡ done_tick (x.tables.stage t)
+        same_done : (t : ℕ) (y : Bool) → eqb t (slot_in_turn e share (x.serial e)) ≡ y → done_tick (cond y (flying b k (real row (x.serial e))) (x.tables.stage t)) ≡ done_tick (x.tables.stage t)
         same_done t true z = sym (ap (λ q. done_tick (x.tables.stage q)) (eqb-true t _ z) ∙ (still_not _ free).1)
         same_done t false z = refl
 
-        every : (vs : List Vertex) → AllByRecursion (λ v. done_tick (put x.tables.stage (slot_in_turn e share (x.serial e)) (flying b k (Real row (x.serial e))) v.slot) ≡ done_tick (x.tables.stage v.slot)) vs
+        every : (vs : List Vertex) → AllByRecursion (λ v. done_tick (put x.tables.stage (slot_in_turn e share (x.serial e)) (flying b k (real row (x.serial e))) v.slot) ≡ done_tick (x.tables.stage v.slot)) vs
         every [] = tt
         every (v ∷ vs) = (same_done v.slot _ refl, every vs)
 
-    within_open : Within r laws c (taken_open r.meaning x e b k (Real row (x.serial e)) (slot_in_turn e share (x.serial e)))
+    within_open : Within r laws c (taken_open r.meaning x e b k (real row (x.serial e)) (slot_in_turn e share (x.serial e)))
     unfolding taken_open
     within_open t = go (eqb t (slot_in_turn e share (x.serial e))) refl
       where
-        go : (y : Bool) → eqb t (slot_in_turn e share (x.serial e)) ≡ y → is_flying (cond y (flying b k (Real row (x.serial e))) (x.tables.stage t)) ≡ true → has t (all_slots c) ≡ true
+        go : (y : Bool) → eqb t (slot_in_turn e share (x.serial e)) ≡ y → is_flying (cond y (flying b k (real row (x.serial e))) (x.tables.stage t)) ≡ true → has t (all_slots c) ≡ true
         go true z f = subst (λ q. has q (all_slots c) ≡ true) (sym (eqb-true t _ z)) slot_has
         go false z f = win t f
 

@@ -2,6 +2,7 @@
 use Rattle.std.proofs.Common.{◌≡◌, ℕ, zero, suc, ◌/◌, ◌%◌, Bool, true, false, not, ◌&&◌, ◌||◌, ltb, List, [], ◌∷◌, ◌++◌, map, get_or, replicate, Some, None, Option, sym, refl, ap, ◌∙◌, arith}
 use mathlib.Core.Path.{fun_ext}
 use Rattle.std.proofs.lemmas.Bool.{ltb-false}
+use Rattle.std.proofs.lemmas.Option.{slice_get-map}
 use Rattle.std.specs.Option.{option_map}
 use Rattle.std.specs.List.{slice_get}
 use Rattle.interface.specs.Meaning.{Meaning, any, is_empty, accepted}
@@ -11,45 +12,26 @@ use Rattle.patterns.specs.declared.vertex.VertexState.TheVariants.{Still, Flying
 use Rattle.patterns.specs.declared.setting.VertexSetting.{VertexSetting}
 use Rattle.patterns.specs.Lanes.{LaneView, lane_of, changed, started}
 use Rattle.patterns.specs.Shape.{vertex_of}
-use Rattle.model.specs.declared.Payload.{Payload}
-use Rattle.model.specs.declared.Payload.TheVariants.{Fake}
+use Rattle.model.specs.Payloads.{Payload, fake}
 use Rattle.model.specs.declared.Waiting.{Waiting}
 use Rattle.model.specs.Settings.{Settings, Role, blank}
 use Rattle.model.specs.Ticks.{Stage, still}
 use Rattle.model.specs.Calls.{Running, State, running, Setting, opens, lane, first, setting_refusal, begins, good, outcome}
 use Rattle.model.specs.Calls as calls
-use Rattle.board.specs.declared.slot.OpenSlot.{OpenSlot}
-use Rattle.board.specs.declared.slot.OpenSlot.TheVariants.{Free, Held}
-use Rattle.board.specs.Slots.{is_free}
+use Rattle.board.specs.Slots.{OpenSlot, free, is_free}
 use Rattle.board.specs.Sets.{roles_of}
 use Rattle.board.specs.Boards.{BoardView, settings_of, with_setting, set_with, started_board, new_board, free_slots}
 use Rattle.store.specs.Stores.{BacklogView, StoreView, no_backlog, new_store}
-use Rattle.board.proofs.Limits.{roles_map}
+use Rattle.board.proofs.Limits.{or_false, and_parts, not_back, not_back', roles_map}
 use Rattle.scheduler.specs.Fresh.{has_moved, lane_moved, lanes_moved, backlog_used, untouched}
 use Rattle.board.specs.Flights.{lane_at, vertex_in}
 use Rattle.scheduler.specs.Views.{open_stage, state_stage, vertex_stage, slot_stage, stage_at, start_of, start_at, queue_at, serial_at, running_of, state_of}
 
-or_parts : (s t : Bool) → (s || t) ≡ false → (s ≡ false) × (t ≡ false)
-or_parts true t e = let z : ◌≡◌ {A = ℕ} 0 1 = (cc) in absurd (omega arith)
-or_parts false t e = (refl, e)
-
-and_parts : (s t : Bool) → (s && t) ≡ true → (s ≡ true) × (t ≡ true)
-and_parts true t e = (refl, e)
-and_parts false t e = let z : ◌≡◌ {A = ℕ} 0 1 = (cc) in absurd (omega arith)
-
-not_true : (t : Bool) → not t ≡ true → t ≡ false
-not_true true e = let z : ◌≡◌ {A = ℕ} 0 1 = (cc) in absurd (omega arith)
-not_true false e = refl
-
-not_false : (t : Bool) → not t ≡ false → t ≡ true
-not_false true e = refl
-not_false false e = let z : ◌≡◌ {A = ℕ} 0 1 = (cc) in absurd (omega arith)
-
 any_get_or : {X : Type 0} (p : X → Bool) (xs : List X) (i : ℕ) (d : X) → any p xs ≡ false → p d ≡ false → p (get_or xs i d) ≡ false
 any_get_or p [] zero d e f = f
 any_get_or p [] (suc i) d e f = f
-any_get_or p (x ∷ xs) zero d e f = (or_parts (p x) (any p xs) e).0
-any_get_or p (x ∷ xs) (suc i) d e f = any_get_or p xs i d (or_parts (p x) (any p xs) e).1 f
+any_get_or p (x ∷ xs) zero d e f = (or_false (p x) (any p xs) e).0
+any_get_or p (x ∷ xs) (suc i) d e f = any_get_or p xs i d (or_false (p x) (any p xs) e).1 f
 
 -- what a test says of the element at a place, if there is one
 abbrev test_of : {X : Type 0} → (X → Bool) → Option X → Bool
@@ -58,27 +40,27 @@ test_of p (Some x) = p x
 
 any_nth : {X : Type 0} (p : X → Bool) (xs : List X) (i : ℕ) → any p xs ≡ false → test_of p (slice_get xs i) ≡ false
 any_nth p [] i e = refl
-any_nth p (x ∷ xs) zero e = (or_parts (p x) (any p xs) e).0
-any_nth p (x ∷ xs) (suc i) e = any_nth p xs i (or_parts (p x) (any p xs) e).1
+any_nth p (x ∷ xs) zero e = (or_false (p x) (any p xs) e).0
+any_nth p (x ∷ xs) (suc i) e = any_nth p xs i (or_false (p x) (any p xs) e).1
 
 -- ---- the parts of untouched tables
 
 module _ (b : BoardView) (s : StoreView) (ok : untouched b s ≡ true) where
   no_lane_moved : lanes_moved b.lanes ≡ false
   unfolding untouched
-  no_lane_moved = not_true _ (and_parts (not (lanes_moved b.lanes)) _ ok).0
+  no_lane_moved = not_back' _ (and_parts (not (lanes_moved b.lanes)) _ ok).0
 
   no_slot_held : any (λ o. not (is_free o)) b.slots ≡ false
   unfolding untouched
-  no_slot_held = not_true _ (and_parts (not (any (λ o. not (is_free o)) b.slots)) _ (and_parts (not (lanes_moved b.lanes)) _ ok).1).0
+  no_slot_held = not_back' _ (and_parts (not (any (λ o. not (is_free o)) b.slots)) _ (and_parts (not (lanes_moved b.lanes)) _ ok).1).0
 
   no_request : any backlog_used s.backlogs ≡ false
   unfolding untouched
-  no_request = not_true _ (and_parts (not (any (λ o. not (is_free o)) b.slots)) _ (and_parts (not (lanes_moved b.lanes)) _ ok).1).1
+  no_request = not_back' _ (and_parts (not (any (λ o. not (is_free o)) b.slots)) _ (and_parts (not (lanes_moved b.lanes)) _ ok).1).1
 
 free_stage : (o : OpenSlot) (p : Payload) → not (is_free o) ≡ false → open_stage o p ≡ still
-free_stage Free p e = refl
-free_stage (Held b k) p e = let z : ◌≡◌ {A = ℕ} 0 1 = (cc) in absurd (omega arith)
+free_stage None p e = refl
+free_stage (Some a) p e = let z : ◌≡◌ {A = ℕ} 0 1 = (cc) in absurd (omega arith)
 
 still_stage : (v : Option Vertex) (p : Payload) → test_of (λ v. has_moved v.state) v ≡ false → vertex_stage v p ≡ still
 still_stage None p e = refl
@@ -106,18 +88,13 @@ get_or_none : {X : Type 0} (i : ℕ) (d : X) → get_or [] i d ≡ d
 get_or_none zero d = refl
 get_or_none (suc i) d = refl
 
-nth_map : (g : LaneView → LaneView) (ls : List LaneView) (i : ℕ) → slice_get (map g ls) i ≡ option_map g (slice_get ls i)
-nth_map g [] i = refl
-nth_map g (l ∷ ls) zero = refl
-nth_map g (l ∷ ls) (suc i) = nth_map g ls i
-
 get_or_maps : (g : LaneView → LaneView) (ts : List (List LaneView)) (d : ℕ) → get_or (map (map g) ts) d [] ≡ map g (get_or ts d [])
 get_or_maps g [] d = get_or_none d [] ∙ ap (map g) (sym (get_or_none d []))
 get_or_maps g (t ∷ ts) zero = refl
 get_or_maps g (t ∷ ts) (suc d) = get_or_maps g ts d
 
 pub lane_at_map : (g : LaneView → LaneView) (ts : List (List LaneView)) (ℓ : ℕ) → lane_at (map (map g) ts) ℓ ≡ option_map g (lane_at ts ℓ)
-lane_at_map g ts ℓ = ap (λ (ls : List LaneView). slice_get ls (ℓ % 8)) (get_or_maps g ts (ℓ / 8)) ∙ nth_map g (get_or ts (ℓ / 8) []) (ℓ % 8)
+lane_at_map g ts ℓ = ap (λ (ls : List LaneView). slice_get ls (ℓ % 8)) (get_or_maps g ts (ℓ / 8)) ∙ slice_get-map g (get_or ts (ℓ / 8) []) (ℓ % 8)
 
 start_is : (f : ℕ) (s : Option ℕ) (l : Option LaneView) → start_of f s (option_map (started f) l) ≡ f
 start_is f (Some n) l = refl
@@ -126,8 +103,8 @@ start_is f None (Some l) = refl
 
 unused : (x : BacklogView) → backlog_used x ≡ false → x ≡ no_backlog
 unused x e =
-    let p = or_parts (not (is_empty x.queue)) (ltb 0 x.serial) e in
-    let q = empty_is x.queue (not_false _ p.0) in
+    let p = or_false (not (is_empty x.queue)) (ltb 0 x.serial) e in
+    let q = empty_is x.queue (not_back _ p.0) in
     let n = ltb-false 0 x.serial p.1 in
     let z : x.serial ≡ 0 = omega arith in
     ap (λ (l : List Waiting). record { queue = l; serial = x.serial }) q ∙ ap (λ k. record { queue = []; serial = k }) z
@@ -139,10 +116,10 @@ unused x e =
 module _ (b : BoardView) (s : StoreView) (ok : untouched b s ≡ true) where
   all_still : ◌≡◌ {A = ℕ → Stage} (stage_at (started_board b) s) (λ t. still)
   unfolding stage_at
-  all_still = fun_ext (λ t. go t (get_or b.shares (t / 64) None) (get_or s.payloads t Fake))
+  all_still = fun_ext (λ t. go t (get_or b.shares (t / 64) None) (get_or s.payloads t fake))
     where
-      go : (t : ℕ) (share : Option ℕ) (p : Payload) → slot_stage share (get_or b.slots t Free) (vertex_in (lane_at (map (map (started b.first)) b.lanes) (t / 8)) (t % 8)) p ≡ still
-      go t (Some n) p = free_stage (get_or b.slots t Free) p (any_get_or (λ o. not (is_free o)) b.slots t Free (no_slot_held b s ok) refl)
+      go : (t : ℕ) (share : Option ℕ) (p : Payload) → slot_stage share (get_or b.slots t free) (vertex_in (lane_at (map (map (started b.first)) b.lanes) (t / 8)) (t % 8)) p ≡ still
+      go t (Some n) p = free_stage (get_or b.slots t free) p (any_get_or (λ o. not (is_free o)) b.slots t free (no_slot_held b s ok) refl)
       go t None p =
           still_stage (vertex_in (lane_at (map (map (started b.first)) b.lanes) (t / 8)) (t % 8)) p
           (vertex_in_moved (lane_at (map (map (started b.first)) b.lanes) (t / 8)) (t % 8)
@@ -182,12 +159,12 @@ still_new (v ∷ vs) = still_new vs
 
 pushed_moved : (ls : List LaneView) (l : LaneView) → any lane_moved ls ≡ false → lane_moved l ≡ false → any lane_moved (ls ++ (l ∷ [])) ≡ false
 pushed_moved [] l e f = ap (λ t. t || false) f
-pushed_moved (x ∷ ls) l e f = let p = or_parts (lane_moved x) (any lane_moved ls) e in ap (λ t. t || any lane_moved (ls ++ (l ∷ []))) p.0 ∙ pushed_moved ls l p.1 f
+pushed_moved (x ∷ ls) l e f = let p = or_false (lane_moved x) (any lane_moved ls) e in ap (λ t. t || any lane_moved (ls ++ (l ∷ []))) p.0 ∙ pushed_moved ls l p.1 f
 
 lane_moves_none : (ts : List (List LaneView)) (d : ℕ) (l : LaneView) → lanes_moved ts ≡ false → lane_moved l ≡ false → lanes_moved (changed (λ ls. ls ++ (l ∷ [])) ts d) ≡ false
 lane_moves_none [] d l e f = refl
-lane_moves_none (t ∷ ts) zero l e f = let p = or_parts (any lane_moved t) (lanes_moved ts) e in ap (λ x. x || lanes_moved ts) (pushed_moved t l p.0 f) ∙ p.1
-lane_moves_none (t ∷ ts) (suc d) l e f = let p = or_parts (any lane_moved t) (lanes_moved ts) e in ap (λ x. x || lanes_moved (changed (λ ls. ls ++ (l ∷ [])) ts d)) p.0 ∙ lane_moves_none ts d l p.1 f
+lane_moves_none (t ∷ ts) zero l e f = let p = or_false (any lane_moved t) (lanes_moved ts) e in ap (λ x. x || lanes_moved ts) (pushed_moved t l p.0 f) ∙ p.1
+lane_moves_none (t ∷ ts) (suc d) l e f = let p = or_false (any lane_moved t) (lanes_moved ts) e in ap (λ x. x || lanes_moved (changed (λ ls. ls ++ (l ∷ [])) ts d)) p.0 ∙ lane_moves_none ts d l p.1 f
 
 setting_keeps : (b : BoardView) (s : StoreView) (z : Setting) → untouched b s ≡ true → untouched (with_setting b z) s ≡ true
 unfolding untouched
@@ -221,7 +198,7 @@ pub fresh_new : (b : BoardView) (s : StoreView) → b ≡ new_board → s ≡ ne
 unfolding untouched free_slots
 fresh_new b s e f =
     ap (λ (x : BoardView). untouched x s) e ∙ ap (λ (x : StoreView). untouched new_board x) f
-    ∙ ap (λ t. not t && true) (any_replicate (λ o. not (is_free o)) 512 Free refl)
+    ∙ ap (λ t. not t && true) (any_replicate (λ o. not (is_free o)) 512 free refl)
 
 pub blank_is : (b : BoardView) → b ≡ new_board → settings_of b ≡ blank
 unfolding roles_of

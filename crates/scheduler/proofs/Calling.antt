@@ -116,7 +116,7 @@ module _ (m : Meaning (List ℕ)) (l n : ℕ) (ls : List Line) (ns : List Notice
 
   pub room : (w : State) (call : Call) → (outcome m w (made_call l n call)).reply ≡ wrote ls ns → (96 ≤ l) × (32 ≤ n)
   room w (Open d share) e = let z = sets_none w _ e in absurd (omega (arith, z))
-  room w (Lane d vs es rest) e = let z = sets_none w _ e in absurd (omega (arith, z))
+  room w (Lane d s) e = let z = sets_none w _ e in absurd (omega (arith, z))
   room w (First t) e = let z = sets_none w _ e in absurd (omega (arith, z))
   room w Begin e = let z = begin_none w e in absurd (omega (arith, z))
   room w (Submit d b k row) e = let z = submit_none w d b k row e in absurd (omega (arith, z))

@@ -1,4 +1,5 @@
 -- Who leaves, by the board and as the model has it.
+use Rattle.board.specs.Slots.{free}
 use Rattle.std.proofs.Common.{◌≡◌, ℕ, zero, suc, ◌+◌, ◌*◌, ◌/◌, ◌%◌, ◌<◌, ◌≤◌, Bool, true, false, cond, not, ◌&&◌, leb, List, [], ◌∷◌, ◌++◌, map, length, get_or, drop, Some, None, Option, sym, refl, ap, ◌∙◌, subst, arith}
 use Rattle.std.proofs.lemmas.List.{append-nil, append_assoc, map-append}
 use Rattle.std.proofs.ByRecursion.{All-append}
@@ -14,13 +15,11 @@ use Rattle.patterns.specs.declared.vertex.VertexState.TheVariants.{Still, Flying
 use Rattle.patterns.specs.Moves.{done_tick}
 use Rattle.patterns.specs.Due.{comes_into, incoming, release, greatest_or, due}
 use Rattle.patterns.specs.Lanes.{LaneView, done_by, due_in}
-use Rattle.model.specs.declared.Payload.{Payload}
-use Rattle.model.specs.declared.Payload.TheVariants.{Fake}
+use Rattle.model.specs.Payloads.{Payload, fake}
 use Rattle.model.specs.Settings.{Pattern, Settings, vertices_from, lane_vertices, vertices_below, vertices}
 use Rattle.model.specs.Settings as model
 use Rattle.model.specs.Ticks.{Tables, done_in, due_tick, is_due, is_still, leaves, leaving, request_of}
 use Rattle.store.specs.Stores.{StoreView}
-use Rattle.board.specs.declared.slot.OpenSlot.TheVariants.{Free}
 use Rattle.board.specs.Sets.{spot_of, low_source, lane_formed, formed}
 use Rattle.board.specs.Boards.{BoardView, settings_of}
 use Rattle.board.specs.Flights.{lane_at, vertex_in, vertex_at}
@@ -171,9 +170,9 @@ module _ (b : BoardView) (s : StoreView) (used : ℕ) (ok : Sound b s used) (n :
     still_at k w lt e =
         let t = ℓ * 8 + k in
         ap is_still (stage_read b s t)
-        ∙ ap (λ (x : Option ℕ). is_still (slot_stage x (get_or b.slots t Free) (vertex_at b.lanes t) (get_or s.payloads t Fake))) (bare_at k lt)
-        ∙ ap (λ (x : Option Vertex). is_still (vertex_stage x (get_or s.payloads t Fake))) (vertex_is k lt ∙ e)
-        ∙ still_is w (get_or s.payloads t Fake)
+        ∙ ap (λ (x : Option ℕ). is_still (slot_stage x (get_or b.slots t free) (vertex_at b.lanes t) (get_or s.payloads t fake))) (bare_at k lt)
+        ∙ ap (λ (x : Option Vertex). is_still (vertex_stage x (get_or s.payloads t fake))) (vertex_is k lt ∙ e)
+        ∙ still_is w (get_or s.payloads t fake)
 
     start_is : start_at b ℓ ≡ l.start
     unfolding start_at

@@ -1,4 +1,5 @@
 -- What the leaving of vertices does to the tables, on the board and in the store, and as the model has it.
+use Rattle.board.specs.Slots.{free}
 use Rattle.std.proofs.Common.{◌≡◌, ℕ, zero, suc, ◌/◌, ◌<◌, Bool, true, false, cond, eqb, List, [], ◌∷◌, ◌++◌, map, length, get_or, set, Some, None, Option, sym, refl, ap, ◌∙◌, arith, length-set}
 use mathlib.Core.Path.{fun_ext}
 use Rattle.std.proofs.lemmas.List.{get_or-set_same, get_or-set_other}
@@ -16,13 +17,11 @@ use Rattle.patterns.specs.Moves.{next, moved, done_tick}
 use Rattle.patterns.specs.Lanes.{changed}
 use Rattle.model.specs.declared.Letter.TheVariants as letter
 use Rattle.model.specs.declared.Line.{Line}
-use Rattle.model.specs.declared.Payload.{Payload}
-use Rattle.model.specs.declared.Payload.TheVariants.{Fake}
+use Rattle.model.specs.Payloads.{Payload, fake}
 use Rattle.model.specs.declared.Waiting.{Waiting}
 use Rattle.model.specs.Settings.{Settings}
 use Rattle.model.specs.Settings as model
 use Rattle.model.specs.Ticks.{Stage, flying, Tables, put, through, written, line_of, oldest, without, payload_for, departed, take_line, request_of, taken_all}
-use Rattle.board.specs.declared.slot.OpenSlot.TheVariants.{Free}
 use Rattle.board.specs.Boards.{BoardView, settings_of, advanced_board}
 use Rattle.board.specs.Flights.{vertex_at}
 use Rattle.board.specs.Leaving.{departed_board}
@@ -63,15 +62,15 @@ module _ (b : BoardView) (s : StoreView) (used : ℕ) (ok : Sound b s used) (q :
       p : Payload
       p = load_for q s
 
-      read : (x : BoardView) (y : StoreView) (j : ℕ) → stage_at x y j ≡ slot_stage (get_or x.shares (j / 64) None) (get_or x.slots j Free) (vertex_at x.lanes j) (get_or y.payloads j Fake)
+      read : (x : BoardView) (y : StoreView) (j : ℕ) → stage_at x y j ≡ slot_stage (get_or x.shares (j / 64) None) (get_or x.slots j free) (vertex_at x.lanes j) (get_or y.payloads j fake)
       read x y j = stage_read x y j
 
-      at_slot : slot_stage (get_or b.shares (q.slot / 64) None) (get_or b.slots q.slot Free) (vertex_at (advanced_board Due q.slot b).lanes q.slot) (get_or (set s.payloads q.slot (load_for q s)) q.slot Fake) ≡ flying q.bank q.kind (load_for q s)
+      at_slot : slot_stage (get_or b.shares (q.slot / 64) None) (get_or b.slots q.slot free) (vertex_at (advanced_board Due q.slot b).lanes q.slot) (get_or (set s.payloads q.slot (load_for q s)) q.slot fake) ≡ flying q.bank q.kind (load_for q s)
       at_slot =
-          ap (λ (o : Option ℕ). slot_stage o (get_or b.slots q.slot Free) (vertex_at (advanced_board Due q.slot b).lanes q.slot) (get_or (set s.payloads q.slot (load_for q s)) q.slot Fake)) goes.bare
-          ∙ ap (λ (v : Option Vertex). vertex_stage v (get_or (set s.payloads q.slot (load_for q s)) q.slot Fake))
+          ap (λ (o : Option ℕ). slot_stage o (get_or b.slots q.slot free) (vertex_at (advanced_board Due q.slot b).lanes q.slot) (get_or (set s.payloads q.slot (load_for q s)) q.slot fake)) goes.bare
+          ∙ ap (λ (v : Option Vertex). vertex_stage v (get_or (set s.payloads q.slot (load_for q s)) q.slot fake))
           (vertex_moved Due q.slot b q.slot ∙ ap (λ u. cond u (option_map (moved Due) (vertex_at b.lanes q.slot)) (vertex_at b.lanes q.slot)) (eq-eqb q.slot q.slot refl) ∙ ap (option_map (moved Due)) goes.there)
-          ∙ ap (λ (x : Payload). vertex_stage (Some (moved Due goes.vertex)) x) (get_or-set_same s.payloads q.slot (load_for q s) Fake (omega (arith, goes.low, ok.payloads)))
+          ∙ ap (λ (x : Payload). vertex_stage (Some (moved Due goes.vertex)) x) (get_or-set_same s.payloads q.slot (load_for q s) fake (omega (arith, goes.low, ok.payloads)))
           ∙ flying_like goes.vertex q.bank q.kind (load_for q s) goes.same_bank goes.same_kind goes.not_done
 
       go : (j : ℕ) (u : Bool) → eqb j q.slot ≡ u → stage_at (advanced_board Due q.slot b) (loaded q s) j ≡ cond u (flying q.bank q.kind (load_for q s)) (stage_at b s j)
@@ -81,9 +80,9 @@ module _ (b : BoardView) (s : StoreView) (used : ℕ) (ok : Sound b s used) (q :
           ∙ at_slot
       go j false e =
           read (advanced_board Due q.slot b) (loaded q s) j
-          ∙ ap (λ (v : Option Vertex). slot_stage (get_or b.shares (j / 64) None) (get_or b.slots j Free) v (get_or (set s.payloads q.slot (load_for q s)) j Fake))
+          ∙ ap (λ (v : Option Vertex). slot_stage (get_or b.shares (j / 64) None) (get_or b.slots j free) v (get_or (set s.payloads q.slot (load_for q s)) j fake))
           (vertex_moved Due q.slot b j ∙ ap (λ u. cond u (option_map (moved Due) (vertex_at b.lanes j)) (vertex_at b.lanes j)) e)
-          ∙ ap (λ (x : Payload). slot_stage (get_or b.shares (j / 64) None) (get_or b.slots j Free) (vertex_at b.lanes j) x) (get_or-set_other s.payloads q.slot j (load_for q s) Fake (eqb-false j q.slot e))
+          ∙ ap (λ (x : Payload). slot_stage (get_or b.shares (j / 64) None) (get_or b.slots j free) (vertex_at b.lanes j) x) (get_or-set_other s.payloads q.slot j (load_for q s) fake (eqb-false j q.slot e))
           ∙ sym (read b s j)
 
   low_domain : q.domain < length s.backlogs

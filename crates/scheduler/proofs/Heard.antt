@@ -1,4 +1,5 @@
 -- The events of a step, as the board has them and as the model has them.
+use Rattle.board.specs.Slots.{OpenSlot, free}
 use Rattle.std.proofs.Common.{◌≡◌, ℕ, ◌/◌, ◌<◌, Bool, true, false, cond, not, eqb, List, [], ◌∷◌, ◌++◌, length, get_or, set, Some, None, Option, sym, refl, ap, ◌∙◌, arith, length-set}
 use mathlib.Core.Path.{fun_ext}
 use Rattle.std.proofs.lemmas.List.{get_or-set_same, get_or-set_other}
@@ -16,12 +17,9 @@ use Rattle.model.specs.declared.Letter.{Letter}
 use Rattle.model.specs.declared.Letter.TheVariants as letter
 use Rattle.model.specs.declared.Line.{Line}
 use Rattle.model.specs.declared.Notice.{Notice}
-use Rattle.model.specs.declared.Payload.{Payload}
-use Rattle.model.specs.declared.Payload.TheVariants.{Fake}
+use Rattle.model.specs.Payloads.{Payload, fake}
 use Rattle.model.specs.Settings.{Settings, is_opened, is_open}
 use Rattle.model.specs.Ticks.{Stage, still, Tables, put, with_stage, line_of, notice_of, event_line, event_notice, finished, completed, through, written}
-use Rattle.board.specs.declared.slot.OpenSlot.{OpenSlot}
-use Rattle.board.specs.declared.slot.OpenSlot.TheVariants.{Free, Held}
 use Rattle.board.specs.Sets.{no_share}
 use Rattle.board.specs.Boards.{BoardView, settings_of, with_slot, advanced_board}
 use Rattle.board.specs.Flights.{vertex_at, state_flight, flight_by, flight_at, finished_by, heard_board}
@@ -36,24 +34,24 @@ use Rattle.scheduler.proofs.Placing.{vertex_moved, starts_stay, settings_stay, s
 
 -- ---- what is in flight, and the stage
 
-line_by : (l : Letter) (m t : ℕ) (s : StoreView) (o : Option ℕ) (w : OpenSlot) (v : Option Vertex) → flight_line l m s (flight_by t o w v) ≡ line_of l m t (slot_stage o w v (get_or s.payloads t Fake))
-line_by l m t s (Some n) Free v = refl
-line_by l m t s (Some n) (Held b k) v = refl
+line_by : (l : Letter) (m t : ℕ) (s : StoreView) (o : Option ℕ) (w : OpenSlot) (v : Option Vertex) → flight_line l m s (flight_by t o w v) ≡ line_of l m t (slot_stage o w v (get_or s.payloads t fake))
+line_by l m t s (Some n) None v = refl
+line_by l m t s (Some n) (Some a) v = refl
 line_by l m t s None w None = refl
 line_by l m t s None w (Some v) = go v.state
   where
-    go : (x : VertexState) → flight_line l m s (state_flight t v.bank v.kind x) ≡ line_of l m t (state_stage v.bank v.kind x (get_or s.payloads t Fake))
+    go : (x : VertexState) → flight_line l m s (state_flight t v.bank v.kind x) ≡ line_of l m t (state_stage v.bank v.kind x (get_or s.payloads t fake))
     go Still = refl
     go Flying = refl
     go (Done c) = refl
 
-notice_by : (m t : ℕ) (s : StoreView) (o : Option ℕ) (w : OpenSlot) (v : Option Vertex) → flight_notice m s (flight_by t o w v) ≡ notice_of m t (slot_stage o w v (get_or s.payloads t Fake))
-notice_by m t s (Some n) Free v = refl
-notice_by m t s (Some n) (Held b k) v = refl
+notice_by : (m t : ℕ) (s : StoreView) (o : Option ℕ) (w : OpenSlot) (v : Option Vertex) → flight_notice m s (flight_by t o w v) ≡ notice_of m t (slot_stage o w v (get_or s.payloads t fake))
+notice_by m t s (Some n) None v = refl
+notice_by m t s (Some n) (Some a) v = refl
 notice_by m t s None w None = refl
 notice_by m t s None w (Some v) = go v.state
   where
-    go : (x : VertexState) → flight_notice m s (state_flight t v.bank v.kind x) ≡ notice_of m t (state_stage v.bank v.kind x (get_or s.payloads t Fake))
+    go : (x : VertexState) → flight_notice m s (state_flight t v.bank v.kind x) ≡ notice_of m t (state_stage v.bank v.kind x (get_or s.payloads t fake))
     go Still = refl
     go Flying = refl
     go (Done c) = refl
@@ -61,8 +59,8 @@ notice_by m t s None w (Some v) = go v.state
 -- ---- one stage finished
 
 open_finished : (m : ℕ) (w : OpenSlot) (p : Payload) → still ≡ finished true m (open_stage w p)
-open_finished m Free p = refl
-open_finished m (Held b k) p = refl
+open_finished m None p = refl
+open_finished m (Some a) p = refl
 
 vertex_finished : (n : Tick) (v : Option Vertex) (p : Payload) → vertex_stage (option_map (moved (event.Done n)) v) p ≡ finished false n.number (vertex_stage v p)
 vertex_finished n None p = refl
@@ -75,38 +73,38 @@ vertex_finished n (Some v) p = go v.state
 
 -- a Done in an open domain frees its slot
 stages_freed : (b : BoardView) (s : StoreView) (m t share : ℕ) → t < length b.slots → get_or b.shares (t / 64) None ≡ Some share
-    → ◌≡◌ {A = ℕ → Stage} (stage_at (with_slot t Free b) s) (put (stage_at b s) t (finished true m (stage_at b s t)))
+    → ◌≡◌ {A = ℕ → Stage} (stage_at (with_slot t free b) s) (put (stage_at b s) t (finished true m (stage_at b s t)))
 unfolding stage_at
 stages_freed b s m t share lt is = fun_ext (λ j. go j (eqb j t) refl)
   where
     go : (j : ℕ) (x : Bool) → eqb j t ≡ x
-        → slot_stage (get_or b.shares (j / 64) None) (get_or (set b.slots t Free) j Free) (vertex_at b.lanes j) (get_or s.payloads j Fake)
-        ≡ cond x (finished true m (slot_stage (get_or b.shares (t / 64) None) (get_or b.slots t Free) (vertex_at b.lanes t) (get_or s.payloads t Fake))) (slot_stage (get_or b.shares (j / 64) None) (get_or b.slots j Free) (vertex_at b.lanes j) (get_or s.payloads j Fake))
+        → slot_stage (get_or b.shares (j / 64) None) (get_or (set b.slots t free) j free) (vertex_at b.lanes j) (get_or s.payloads j fake)
+        ≡ cond x (finished true m (slot_stage (get_or b.shares (t / 64) None) (get_or b.slots t free) (vertex_at b.lanes t) (get_or s.payloads t fake))) (slot_stage (get_or b.shares (j / 64) None) (get_or b.slots j free) (vertex_at b.lanes j) (get_or s.payloads j fake))
     go j true e =
-        ap (λ k. slot_stage (get_or b.shares (k / 64) None) (get_or (set b.slots t Free) k Free) (vertex_at b.lanes k) (get_or s.payloads k Fake)) (eqb-true j t e)
-        ∙ ap (λ (o : Option ℕ). slot_stage o (get_or (set b.slots t Free) t Free) (vertex_at b.lanes t) (get_or s.payloads t Fake)) is
-        ∙ ap (λ (w : OpenSlot). open_stage w (get_or s.payloads t Fake)) (get_or-set_same b.slots t Free Free lt)
-        ∙ open_finished m (get_or b.slots t Free) (get_or s.payloads t Fake)
-        ∙ ap (λ (o : Option ℕ). finished true m (slot_stage o (get_or b.slots t Free) (vertex_at b.lanes t) (get_or s.payloads t Fake))) (sym is)
+        ap (λ k. slot_stage (get_or b.shares (k / 64) None) (get_or (set b.slots t free) k free) (vertex_at b.lanes k) (get_or s.payloads k fake)) (eqb-true j t e)
+        ∙ ap (λ (o : Option ℕ). slot_stage o (get_or (set b.slots t free) t free) (vertex_at b.lanes t) (get_or s.payloads t fake)) is
+        ∙ ap (λ (w : OpenSlot). open_stage w (get_or s.payloads t fake)) (get_or-set_same b.slots t free free lt)
+        ∙ open_finished m (get_or b.slots t free) (get_or s.payloads t fake)
+        ∙ ap (λ (o : Option ℕ). finished true m (slot_stage o (get_or b.slots t free) (vertex_at b.lanes t) (get_or s.payloads t fake))) (sym is)
     go j false e =
-        ap (λ (w : OpenSlot). slot_stage (get_or b.shares (j / 64) None) w (vertex_at b.lanes j) (get_or s.payloads j Fake)) (get_or-set_other b.slots t j Free Free (eqb-false j t e))
+        ap (λ (w : OpenSlot). slot_stage (get_or b.shares (j / 64) None) w (vertex_at b.lanes j) (get_or s.payloads j fake)) (get_or-set_other b.slots t j free free (eqb-false j t e))
 
 -- a Done in another domain moves its vertex on
 stages_done : (b : BoardView) (s : StoreView) (n : Tick) (t : ℕ) → get_or b.shares (t / 64) None ≡ None
     → ◌≡◌ {A = ℕ → Stage} (stage_at (advanced_board (event.Done n) t b) s) (put (stage_at b s) t (finished false n.number (stage_at b s t)))
 unfolding stage_at
 stages_done b s n t bare = fun_ext (λ j.
-    ap (λ (v : Option Vertex). slot_stage (get_or b.shares (j / 64) None) (get_or b.slots j Free) v (get_or s.payloads j Fake)) (vertex_moved (event.Done n) t b j)
+    ap (λ (v : Option Vertex). slot_stage (get_or b.shares (j / 64) None) (get_or b.slots j free) v (get_or s.payloads j fake)) (vertex_moved (event.Done n) t b j)
     ∙ go j (eqb j t) refl)
   where
     go : (j : ℕ) (x : Bool) → eqb j t ≡ x
-        → slot_stage (get_or b.shares (j / 64) None) (get_or b.slots j Free) (cond x (option_map (moved (event.Done n)) (vertex_at b.lanes j)) (vertex_at b.lanes j)) (get_or s.payloads j Fake)
-        ≡ cond x (finished false n.number (slot_stage (get_or b.shares (t / 64) None) (get_or b.slots t Free) (vertex_at b.lanes t) (get_or s.payloads t Fake))) (slot_stage (get_or b.shares (j / 64) None) (get_or b.slots j Free) (vertex_at b.lanes j) (get_or s.payloads j Fake))
+        → slot_stage (get_or b.shares (j / 64) None) (get_or b.slots j free) (cond x (option_map (moved (event.Done n)) (vertex_at b.lanes j)) (vertex_at b.lanes j)) (get_or s.payloads j fake)
+        ≡ cond x (finished false n.number (slot_stage (get_or b.shares (t / 64) None) (get_or b.slots t free) (vertex_at b.lanes t) (get_or s.payloads t fake))) (slot_stage (get_or b.shares (j / 64) None) (get_or b.slots j free) (vertex_at b.lanes j) (get_or s.payloads j fake))
     go j true e =
-        ap (λ k. slot_stage (get_or b.shares (k / 64) None) (get_or b.slots k Free) (option_map (moved (event.Done n)) (vertex_at b.lanes k)) (get_or s.payloads k Fake)) (eqb-true j t e)
-        ∙ ap (λ (o : Option ℕ). slot_stage o (get_or b.slots t Free) (option_map (moved (event.Done n)) (vertex_at b.lanes t)) (get_or s.payloads t Fake)) bare
-        ∙ vertex_finished n (vertex_at b.lanes t) (get_or s.payloads t Fake)
-        ∙ ap (λ (o : Option ℕ). finished false n.number (slot_stage o (get_or b.slots t Free) (vertex_at b.lanes t) (get_or s.payloads t Fake))) (sym bare)
+        ap (λ k. slot_stage (get_or b.shares (k / 64) None) (get_or b.slots k free) (option_map (moved (event.Done n)) (vertex_at b.lanes k)) (get_or s.payloads k fake)) (eqb-true j t e)
+        ∙ ap (λ (o : Option ℕ). slot_stage o (get_or b.slots t free) (option_map (moved (event.Done n)) (vertex_at b.lanes t)) (get_or s.payloads t fake)) bare
+        ∙ vertex_finished n (vertex_at b.lanes t) (get_or s.payloads t fake)
+        ∙ ap (λ (o : Option ℕ). finished false n.number (slot_stage o (get_or b.slots t free) (vertex_at b.lanes t) (get_or s.payloads t fake))) (sym bare)
     go j false e = refl
 
 starts_same : (b : BoardView) (t : ℕ) (w : OpenSlot) → start_at (with_slot t w b) ≡ start_at b
@@ -133,13 +131,13 @@ sound_slot b s used t w ok = record {
 module _ (b : BoardView) (s : StoreView) (used : ℕ) (ok : Sound b s used) (n : Tick) where
   pub line_is : (e : Event) → heard_line n e b s ≡ event_line n.number e (tables_of b s)
   unfolding event_line flight_at stage_at
-  line_is (reported.Issue t) = line_by letter.I n.number t s (get_or b.shares (t / 64) None) (get_or b.slots t Free) (vertex_at b.lanes t)
-  line_is (reported.Done t) = line_by letter.D n.number t s (get_or b.shares (t / 64) None) (get_or b.slots t Free) (vertex_at b.lanes t)
+  line_is (reported.Issue t) = line_by letter.I n.number t s (get_or b.shares (t / 64) None) (get_or b.slots t free) (vertex_at b.lanes t)
+  line_is (reported.Done t) = line_by letter.D n.number t s (get_or b.shares (t / 64) None) (get_or b.slots t free) (vertex_at b.lanes t)
 
   pub notice_is : (e : Event) → heard_notice n e b s ≡ event_notice n.number e (tables_of b s)
   unfolding event_notice flight_at stage_at
   notice_is (reported.Issue t) = refl
-  notice_is (reported.Done t) = notice_by n.number t s (get_or b.shares (t / 64) None) (get_or b.slots t Free) (vertex_at b.lanes t)
+  notice_is (reported.Done t) = notice_by n.number t s (get_or b.shares (t / 64) None) (get_or b.slots t free) (vertex_at b.lanes t)
 
   open_is : (d : ℕ) → not (no_share (get_or b.shares d None)) ≡ is_open (settings_of b) d
   open_is d = sym (ap is_opened (role b used ok.board d) ∙ opened_at (get_or b.shares d None) (get_or b.lanes d []))
@@ -147,8 +145,8 @@ module _ (b : BoardView) (s : StoreView) (used : ℕ) (ok : Sound b s used) (n :
   done_by : (t : ℕ) (o : Option ℕ) → get_or b.shares (t / 64) None ≡ o → tables_of (finished_by o n t b) s ≡ with_stage (tables_of b s) (put (stage_at b s) t (finished (not (no_share o)) n.number (stage_at b s t)))
   done_by t (Some share) is =
       let low = low_share b s used ok (t / 64) share is in
-      ap (λ (f : ℕ → Stage). record { stage = f; start = start_at (with_slot t Free b); queue = queue_at s }) (stages_freed b s n.number t share (omega (arith, low, ok.slots)) is)
-      ∙ ap (λ (f : ℕ → ℕ). record { stage = put (stage_at b s) t (finished true n.number (stage_at b s t)); start = f; queue = queue_at s }) (starts_same b t Free)
+      ap (λ (f : ℕ → Stage). record { stage = f; start = start_at (with_slot t free b); queue = queue_at s }) (stages_freed b s n.number t share (omega (arith, low, ok.slots)) is)
+      ∙ ap (λ (f : ℕ → ℕ). record { stage = put (stage_at b s) t (finished true n.number (stage_at b s t)); start = f; queue = queue_at s }) (starts_same b t free)
   done_by t None is =
       ap (λ (f : ℕ → Stage). record { stage = f; start = start_at (advanced_board (event.Done n) t b); queue = queue_at s }) (stages_done b s n t is)
       ∙ ap (λ (f : ℕ → ℕ). record { stage = put (stage_at b s) t (finished false n.number (stage_at b s t)); start = f; queue = queue_at s }) (starts_stay (event.Done n) t b)
@@ -173,7 +171,7 @@ module _ (b : BoardView) (s : StoreView) (used : ℕ) (ok : Sound b s used) (n :
   still_sound (reported.Done t) = go (get_or b.shares (t / 64) None)
     where
       go : (o : Option ℕ) → Sound (finished_by o n t b) s used
-      go (Some share) = sound_slot b s used t Free ok
+      go (Some share) = sound_slot b s used t free ok
       go None = sound_stays (event.Done n) t b s used ok
 
 -- ---- all events of a step

@@ -1,30 +1,40 @@
 -- What the setting calls and begin come to, from what the board says of them.
 use Rattle.std.proofs.Common.{◌≡◌, ℕ, Bool, true, false, List, [], Some, None, Option, sym, refl, ap, ◌∙◌}
-use Rattle.interface.specs.Meaning.{Meaning, accepted}
+use Rattle.std.proofs.lemmas.Option.{cond_some}
+use Rattle.interface.specs.Meaning.{Meaning, accepted, check}
 use Rattle.interface.specs.declared.Kind.{Kind}
 use Rattle.model.specs.Settings.{Settings}
 use Rattle.model.specs.Calls.{Setting, sets, begins, submit, refused, good, setting, Running, settled, setting_refusal, outcome, unless}
+use Rattle.patterns.proofs.Checks.{passes}
 use Rattle.board.specs.Boards.{BoardView, settings_of, with_setting, set_with}
 use Rattle.scheduler.specs.Views.{state_of}
 use Rattle.scheduler.specs.Schedulers.{reply_of}
 
+-- before begin
+pub unbegun : (g : Bool) → None ≡ check g 1 None → g ≡ false
+unbegun g e = (passes g 1 None (sym e)).0
+
 module _ (m : Meaning (List ℕ)) (g : Bool) (c : Settings) (x : Running) where
   -- a setting or a begin after begin
-  pub late_after : (z : Setting) → g ≡ true → state_of g c x ≡ (outcome m (state_of g c x) (sets z)).after
-  unfolding outcome
-  late_after z e = ap (λ t. state_of t c x) e ∙ ap (λ t. (outcome m (state_of t c x) (sets z)).after) (sym e)
+  module _ (j : ℕ) (e : Some j ≡ check g 1 None) where
+    late : (g ≡ true) × (1 ≡ j)
+    late = cond_some g 1 j (sym e)
 
-  pub late_reply : (z : Setting) → g ≡ true → refused 1 ≡ (outcome m (state_of g c x) (sets z)).reply
-  unfolding outcome
-  late_reply z e = ap (λ t. (outcome m (state_of t c x) (sets z)).reply) (sym e)
+    pub late_after : (z : Setting) → state_of g c x ≡ (outcome m (state_of g c x) (sets z)).after
+    unfolding outcome
+    late_after z = ap (λ t. state_of t c x) late.0 ∙ ap (λ t. (outcome m (state_of t c x) (sets z)).after) (sym late.0)
 
-  pub again_after : g ≡ true → state_of g c x ≡ (outcome m (state_of g c x) begins).after
-  unfolding outcome
-  again_after e = ap (λ t. state_of t c x) e ∙ ap (λ t. (outcome m (state_of t c x) begins).after) (sym e)
+    pub late_reply : (z : Setting) → refused j ≡ (outcome m (state_of g c x) (sets z)).reply
+    unfolding outcome
+    late_reply z = ap refused (sym late.1) ∙ ap (λ t. (outcome m (state_of t c x) (sets z)).reply) (sym late.0)
 
-  pub again_reply : g ≡ true → refused 1 ≡ (outcome m (state_of g c x) begins).reply
-  unfolding outcome
-  again_reply e = ap (λ t. (outcome m (state_of t c x) begins).reply) (sym e)
+    pub again_after : state_of g c x ≡ (outcome m (state_of g c x) begins).after
+    unfolding outcome
+    again_after = ap (λ t. state_of t c x) late.0 ∙ ap (λ t. (outcome m (state_of t c x) begins).after) (sym late.0)
+
+    pub again_reply : refused j ≡ (outcome m (state_of g c x) begins).reply
+    unfolding outcome
+    again_reply = ap refused (sym late.1) ∙ ap (λ t. (outcome m (state_of t c x) begins).reply) (sym late.0)
 
   -- a submit before begin
   pub early_after : (d b : ℕ) (k : Kind) (row : ℕ) → g ≡ false → state_of g c x ≡ (outcome m (state_of g c x) (submit d b k row)).after

@@ -1,4 +1,5 @@
 -- The next rounds, by lanes and as the model has them.
+use Rattle.board.specs.Slots.{OpenSlot, free}
 use Rattle.std.proofs.Common.{◌≡◌, ℕ, zero, suc, ◌+◌, ◌*◌, ◌/◌, ◌%◌, ◌<◌, List, [], ◌∷◌, map, length, get_or, Some, None, Option, sym, refl, ap, ◌∙◌, arith}
 use mathlib.Core.Path.{fun_ext}
 use lib.ListN.{length-map}
@@ -14,15 +15,12 @@ use Rattle.patterns.specs.Moves as moves
 use Rattle.patterns.specs.Due.{later, round_end, next_start}
 use Rattle.patterns.specs.Lanes.{LaneView, vertex_done, done_by, ended, renewed_at}
 use Rattle.patterns.specs.Lanes as lanes
-use Rattle.model.specs.declared.Payload.{Payload}
-use Rattle.model.specs.declared.Payload.TheVariants.{Fake}
+use Rattle.model.specs.Payloads.{Payload, fake}
 use Rattle.model.specs.Settings.{Pattern, Role, patterns_of, pattern_at}
 use Rattle.model.specs.Ticks.{Stage, done_tick, done_in, lane_end, renewed, rounds}
 use Rattle.board.specs.Sets.{spot_of, pattern_of, role_at}
 use Rattle.board.specs.Boards.{BoardView, settings_of, renewed_board}
 use Rattle.store.specs.Stores.{StoreView}
-use Rattle.board.specs.declared.slot.OpenSlot.{OpenSlot}
-use Rattle.board.specs.declared.slot.OpenSlot.TheVariants.{Free}
 use Rattle.board.proofs.Limits.{role}
 use Rattle.board.specs.Flights.{lane_at, vertex_in}
 use Rattle.scheduler.specs.Views.{state_stage, vertex_stage, slot_stage, stage_at, start_of, start_at, queue_at, tables_of}
@@ -84,7 +82,7 @@ renew_start : (o : Option ℕ) (l : LaneView) → (renewed_at o l).start ≡ nex
 renew_start None l = refl
 renew_start (Some m) l = refl
 
-pub stage_read : (x : BoardView) (s : StoreView) (t : ℕ) → stage_at x s t ≡ slot_stage (get_or x.shares (t / 64) None) (get_or x.slots t Free) (vertex_in (lane_at x.lanes (t / 8)) (t % 8)) (get_or s.payloads t Fake)
+pub stage_read : (x : BoardView) (s : StoreView) (t : ℕ) → stage_at x s t ≡ slot_stage (get_or x.shares (t / 64) None) (get_or x.slots t free) (vertex_in (lane_at x.lanes (t / 8)) (t % 8)) (get_or s.payloads t fake)
 unfolding stage_at
 stage_read x s t = refl
 
@@ -117,10 +115,10 @@ module _ (b : BoardView) (s : StoreView) (used : ℕ) (ok : Sound b s used) wher
       let d : t / 64 ≡ ℓ / 8 = omega arith in
       let q : t / 8 ≡ ℓ = omega arith in
       let r : t % 8 ≡ i = omega arith in
-      ap (λ (x : Option ℕ). done_tick (slot_stage x (get_or b.slots t Free) (vertex_in (lane_at b.lanes (t / 8)) (t % 8)) (get_or s.payloads t Fake))) (ap (λ k. get_or b.shares k None) d ∙ bare)
-      ∙ ap (λ (x : Option LaneView). done_tick (vertex_stage (vertex_in x (t % 8)) (get_or s.payloads t Fake))) (ap (lane_at b.lanes) q ∙ is)
-      ∙ ap (λ k. done_tick (vertex_stage (slice_get l.vertices k) (get_or s.payloads t Fake))) r
-      ∙ done_nth l.vertices i (get_or s.payloads t Fake)
+      ap (λ (x : Option ℕ). done_tick (slot_stage x (get_or b.slots t free) (vertex_in (lane_at b.lanes (t / 8)) (t % 8)) (get_or s.payloads t fake))) (ap (λ k. get_or b.shares k None) d ∙ bare)
+      ∙ ap (λ (x : Option LaneView). done_tick (vertex_stage (vertex_in x (t % 8)) (get_or s.payloads t fake))) (ap (lane_at b.lanes) q ∙ is)
+      ∙ ap (λ k. done_tick (vertex_stage (slice_get l.vertices k) (get_or s.payloads t fake))) r
+      ∙ done_nth l.vertices i (get_or s.payloads t fake)
 
   end_go : (ℓ : ℕ) (o : Option ℕ) (x : Option LaneView) → get_or b.shares (ℓ / 8) None ≡ o → lane_at b.lanes ℓ ≡ x → round_end (done_in (stage_at b s) ℓ) (length (pattern_at (settings_of b) ℓ).spots) ≡ end_by o x
   end_go ℓ (Some n) x e f = ap (λ (p : Pattern). round_end (done_in (stage_at b s) ℓ) (length p.spots)) (pattern_is ℓ ∙ ap (λ (o : Option ℕ). pattern_by o (lane_at b.lanes ℓ)) e)
@@ -139,15 +137,15 @@ module _ (b : BoardView) (s : StoreView) (used : ℕ) (ok : Sound b s used) wher
   stages_renewed : ◌≡◌ {A = ℕ → Stage} (stage_at (renewed_board b) s) (λ t. renewed (lane_end (settings_of b) (stage_at b s) (t / 8)) (stage_at b s t))
   stages_renewed = fun_ext (λ t. go t)
     where
-      read : (x : BoardView) (t : ℕ) → stage_at x s t ≡ slot_stage (get_or x.shares (t / 64) None) (get_or x.slots t Free) (vertex_in (lane_at x.lanes (t / 8)) (t % 8)) (get_or s.payloads t Fake)
+      read : (x : BoardView) (t : ℕ) → stage_at x s t ≡ slot_stage (get_or x.shares (t / 64) None) (get_or x.slots t free) (vertex_in (lane_at x.lanes (t / 8)) (t % 8)) (get_or s.payloads t fake)
       read x t = stage_read x s t
 
       go : (t : ℕ) → stage_at (renewed_board b) s t ≡ renewed (lane_end (settings_of b) (stage_at b s) (t / 8)) (stage_at b s t)
       go t =
           let d : t / 64 ≡ t / 8 / 8 = omega arith in
           read (renewed_board b) t
-          ∙ ap (λ (x : Option LaneView). slot_stage (get_or b.shares (t / 64) None) (get_or b.slots t Free) (vertex_in x (t % 8)) (get_or s.payloads t Fake)) (lane_at_map lanes.renewed b.lanes (t / 8))
-          ∙ slot_renew (get_or b.shares (t / 64) None) (lane_at b.lanes (t / 8)) (get_or b.slots t Free) (t % 8) (get_or s.payloads t Fake)
+          ∙ ap (λ (x : Option LaneView). slot_stage (get_or b.shares (t / 64) None) (get_or b.slots t free) (vertex_in x (t % 8)) (get_or s.payloads t fake)) (lane_at_map lanes.renewed b.lanes (t / 8))
+          ∙ slot_renew (get_or b.shares (t / 64) None) (lane_at b.lanes (t / 8)) (get_or b.slots t free) (t % 8) (get_or s.payloads t fake)
           ∙ ap (λ (x : Stage). renewed (end_by (get_or b.shares (t / 64) None) (lane_at b.lanes (t / 8))) x) (sym (read b t))
           ∙ ap (λ (o : Option ℕ). renewed o (stage_at b s t)) (ap (λ k. end_by (get_or b.shares k None) (lane_at b.lanes (t / 8))) d ∙ sym (end_is (t / 8)))
 

@@ -8,23 +8,17 @@ use Rattle.interface.specs.declared.Kind.{Kind}
 use Rattle.interface.specs.Meaning.{Meaning, Call, after, any, check}
 use Rattle.patterns.specs.Lanes.{LaneView, changed}
 use Rattle.patterns.proofs.Checks.{passes}
-use Rattle.model.specs.declared.Payload.{Payload}
-use Rattle.model.specs.declared.Payload.TheVariants.{Fake, Real}
+use Rattle.model.specs.Payloads.{Payload, fake, real}
 use Rattle.model.specs.declared.Waiting.{Waiting}
 use Rattle.model.specs.Settings.{Pattern, Role, role_of, patterns_of, is_unset, pattern_at}
 use Rattle.model.specs.Ticks.{Stage, flying, put, is_still}
 use Rattle.model.specs.Calls.{State, running, Running, Reply, refused, serial, slot_in_turn, serves, role_refusal, submit_refusal, enqueued, taken_open, submitted, submit_outcome, unless, outcome}
 use Rattle.model.specs.Calls as calls
-use Rattle.board.specs.declared.board.Board.{Board}
-use Rattle.store.specs.declared.store.Store.{Store}
-use Rattle.board.specs.declared.share.Share.{Share}
-use Rattle.board.specs.declared.slot.OpenSlot.{OpenSlot}
-use Rattle.board.specs.declared.slot.OpenSlot.TheVariants.{Free, Held}
-use Rattle.board.specs.Sets.{shares_view, spot_of, pattern_of, role_at, is_unset_at, formed, domain_formed, lane_formed}
-use Rattle.board.specs.Slots.{is_free, turn_of, lane_serves}
-use Rattle.board.specs.Boards.{BoardView, board_view, settings_of, with_slot}
-use Rattle.store.specs.Stores.{BacklogView, StoreView, store_view, backlog_view, backlog_at, no_backlog, with_backlog, with_payload, queued, counted, joined, numbered}
-use Rattle.board.proofs.Limits.{Known, known, role, formed_at, not_back, not_back', and_parts, or_false, check_tests, changed_at}
+use Rattle.board.specs.Sets.{spot_of, pattern_of, role_at, is_unset_at, formed, domain_formed, lane_formed}
+use Rattle.board.specs.Slots.{OpenSlot, free, held, is_free, turn_of, lane_serves}
+use Rattle.board.specs.Boards.{BoardView, Known, slots_set, settings_of, with_slot}
+use Rattle.store.specs.Stores.{BacklogView, Sized, StoreView, backlog_at, no_backlog, with_backlog, with_payload, queued, counted, joined, numbered}
+use Rattle.board.proofs.Limits.{role, formed_at, not_back, not_back', and_parts, or_false, check_tests, changed_at}
 use Rattle.board.proofs.Roles.{unset_at}
 use Rattle.board.specs.Flights.{lane_at, vertex_in}
 use Rattle.scheduler.specs.Views.{open_stage, slot_stage, stage_at, start_at, queue_at, serial_at, running_of, state_of}
@@ -39,20 +33,8 @@ pub record Sound (b : BoardView) (s : StoreView) (used : ℕ) : Type 0 where
   pub backlogs : length s.backlogs ≡ 8
   pub payloads : length s.payloads ≡ 512
 
-share_bounds : (ss : List (Option Share)) (d n : ℕ) → get_or (shares_view ss) d None ≡ Some n → (1 ≤ n) × (n ≤ 16)
-share_bounds [] d n e = let q : None ≡ Some n = sym (get_or_past [] d None (omega arith)) ∙ e in let z : ◌≡◌ {A = ℕ} 0 1 = (cc) in absurd (omega arith)
-share_bounds (None ∷ ss) zero n e = let z : ◌≡◌ {A = ℕ} 0 1 = (cc) in absurd (omega arith)
-share_bounds (Some s ∷ ss) zero n e = let q : s.slots ≡ n = (cc) in (omega (arith, s.least), omega (arith, s.most))
-share_bounds (s ∷ ss) (suc d) n e = share_bounds ss d n e
-
-pub sound : (b : Board) (s : Store) → Sound (board_view b) (store_view s) b.used
-sound b s = record {
-  board = known b;
-  slots = sym b.slots.ok.0 ∙ b.slot_room;
-  shares = share_bounds b.shares.items;
-  backlogs = length-map s.backlogs.items backlog_view ∙ sym s.backlogs.ok.0 ∙ s.eight;
-  payloads = sym s.payloads.ok.0 ∙ s.slot_room;
-}
+pub sound : (b : BoardView) (s : StoreView) → Known b (slots_set b) → length b.slots ≡ 512 → ((d n : ℕ) → get_or b.shares d None ≡ Some n → (1 ≤ n) × (n ≤ 16)) → Sized s → Sound b s (slots_set b)
+sound b s board slots shares sized = record { board = board; slots = slots; shares = shares; backlogs = sized.0; payloads = sized.1 }
 
 -- ---- one element changed
 
@@ -104,25 +86,25 @@ abbrev held_store : ℕ → ℕ → Payload → StoreView → StoreView
 held_store d slot p s = with_backlog counted d (with_payload slot p s)
 
 stage_put : (b : BoardView) (s : StoreView) (d slot share bank : ℕ) (kind : Kind) (p : Payload) → slot < length b.slots → slot < length s.payloads → get_or b.shares (slot / 64) None ≡ Some share
-    → ◌≡◌ {A = ℕ → Stage} (stage_at (with_slot slot (Held bank kind) b) (held_store d slot p s)) (put (stage_at b s) slot (flying bank kind p))
+    → ◌≡◌ {A = ℕ → Stage} (stage_at (with_slot slot (held bank kind) b) (held_store d slot p s)) (put (stage_at b s) slot (flying bank kind p))
 unfolding stage_at
 stage_put b s d slot share bank kind p lt lp is = fun_ext (λ j. go j (eqb j slot) refl)
   where
     after_stage : ℕ → Stage
-    after_stage j = slot_stage (get_or b.shares (j / 64) None) (get_or (set b.slots slot (Held bank kind)) j Free) (vertex_in (lane_at b.lanes (j / 8)) (j % 8)) (get_or (set s.payloads slot p) j Fake)
+    after_stage j = slot_stage (get_or b.shares (j / 64) None) (get_or (set b.slots slot (held bank kind)) j free) (vertex_in (lane_at b.lanes (j / 8)) (j % 8)) (get_or (set s.payloads slot p) j fake)
 
     go : (j : ℕ) (t : Bool) → eqb j slot ≡ t
-        → slot_stage (get_or b.shares (j / 64) None) (get_or (set b.slots slot (Held bank kind)) j Free) (vertex_in (lane_at b.lanes (j / 8)) (j % 8)) (get_or (set s.payloads slot p) j Fake)
-        ≡ cond t (flying bank kind p) (slot_stage (get_or b.shares (j / 64) None) (get_or b.slots j Free) (vertex_in (lane_at b.lanes (j / 8)) (j % 8)) (get_or s.payloads j Fake))
+        → slot_stage (get_or b.shares (j / 64) None) (get_or (set b.slots slot (held bank kind)) j free) (vertex_in (lane_at b.lanes (j / 8)) (j % 8)) (get_or (set s.payloads slot p) j fake)
+        ≡ cond t (flying bank kind p) (slot_stage (get_or b.shares (j / 64) None) (get_or b.slots j free) (vertex_in (lane_at b.lanes (j / 8)) (j % 8)) (get_or s.payloads j fake))
     go j true e =
-        ap (λ k. slot_stage (get_or b.shares (k / 64) None) (get_or (set b.slots slot (Held bank kind)) k Free) (vertex_in (lane_at b.lanes (k / 8)) (k % 8)) (get_or (set s.payloads slot p) k Fake)) (eqb-true j slot e)
-        ∙ ap (λ (o : Option ℕ). slot_stage o (get_or (set b.slots slot (Held bank kind)) slot Free) (vertex_in (lane_at b.lanes (slot / 8)) (slot % 8)) (get_or (set s.payloads slot p) slot Fake)) is
-        ∙ ap (λ (o : OpenSlot). open_stage o (get_or (set s.payloads slot p) slot Fake)) (get_or-set_same b.slots slot (Held bank kind) Free lt)
-        ∙ ap (λ (q : Payload). flying bank kind q) (get_or-set_same s.payloads slot p Fake lp)
+        ap (λ k. slot_stage (get_or b.shares (k / 64) None) (get_or (set b.slots slot (held bank kind)) k free) (vertex_in (lane_at b.lanes (k / 8)) (k % 8)) (get_or (set s.payloads slot p) k fake)) (eqb-true j slot e)
+        ∙ ap (λ (o : Option ℕ). slot_stage o (get_or (set b.slots slot (held bank kind)) slot free) (vertex_in (lane_at b.lanes (slot / 8)) (slot % 8)) (get_or (set s.payloads slot p) slot fake)) is
+        ∙ ap (λ (o : OpenSlot). open_stage o (get_or (set s.payloads slot p) slot fake)) (get_or-set_same b.slots slot (held bank kind) free lt)
+        ∙ ap (λ (q : Payload). flying bank kind q) (get_or-set_same s.payloads slot p fake lp)
     go j false e =
         let ne = eqb-false j slot e in
-        ap (λ (o : OpenSlot). slot_stage (get_or b.shares (j / 64) None) o (vertex_in (lane_at b.lanes (j / 8)) (j % 8)) (get_or (set s.payloads slot p) j Fake)) (get_or-set_other b.slots slot j (Held bank kind) Free ne)
-        ∙ ap (λ (q : Payload). slot_stage (get_or b.shares (j / 64) None) (get_or b.slots j Free) (vertex_in (lane_at b.lanes (j / 8)) (j % 8)) q) (get_or-set_other s.payloads slot j p Fake ne)
+        ap (λ (o : OpenSlot). slot_stage (get_or b.shares (j / 64) None) o (vertex_in (lane_at b.lanes (j / 8)) (j % 8)) (get_or (set s.payloads slot p) j fake)) (get_or-set_other b.slots slot j (held bank kind) free ne)
+        ∙ ap (λ (q : Payload). slot_stage (get_or b.shares (j / 64) None) (get_or b.slots j free) (vertex_in (lane_at b.lanes (j / 8)) (j % 8)) q) (get_or-set_other s.payloads slot j p fake ne)
 
 start_same : (b : BoardView) (slot : ℕ) (o : OpenSlot) → start_at (with_slot slot o b) ≡ start_at b
 unfolding start_at
@@ -130,12 +112,12 @@ start_same b slot o = refl
 
 pub taken_is : (m : Meaning (List ℕ)) (n : ℕ) (c c' : List ℕ) (b : BoardView) (s : StoreView) (d slot share bank : ℕ) (kind : Kind) (p : Payload) → d < length s.backlogs → slot < length b.slots → slot < length s.payloads → get_or b.shares (slot / 64) None ≡ Some share
     → c' ≡ after m (Call.take (record { slot = slot; domain = d; bank = bank; kind = kind })) c
-    → running_of n c' (with_slot slot (Held bank kind) b) (held_store d slot p s) ≡ taken_open m (running_of n c b s) d bank kind p slot
+    → running_of n c' (with_slot slot (held bank kind) b) (held_store d slot p s) ≡ taken_open m (running_of n c b s) d bank kind p slot
 unfolding taken_open queue_at serial_at
 taken_is m n c c' b s d slot share bank kind p ld lt lp is took =
-    ap (λ (x : List ℕ). running_of n x (with_slot slot (Held bank kind) b) (held_store d slot p s)) took
-    ∙ ap (λ (f : ℕ → Stage). record { tick = n; controller = next; tables = record { stage = f; start = start_at (with_slot slot (Held bank kind) b); queue = queue_at (held_store d slot p s) }; serial = serial_at (held_store d slot p s) }) (stage_put b s d slot share bank kind p lt lp is)
-    ∙ ap (λ (f : ℕ → ℕ). record { tick = n; controller = next; tables = record { stage = put (stage_at b s) slot (flying bank kind p); start = f; queue = queue_at (held_store d slot p s) }; serial = serial_at (held_store d slot p s) }) (start_same b slot (Held bank kind))
+    ap (λ (x : List ℕ). running_of n x (with_slot slot (held bank kind) b) (held_store d slot p s)) took
+    ∙ ap (λ (f : ℕ → Stage). record { tick = n; controller = next; tables = record { stage = f; start = start_at (with_slot slot (held bank kind) b); queue = queue_at (held_store d slot p s) }; serial = serial_at (held_store d slot p s) }) (stage_put b s d slot share bank kind p lt lp is)
+    ∙ ap (λ (f : ℕ → ℕ). record { tick = n; controller = next; tables = record { stage = put (stage_at b s) slot (flying bank kind p); start = f; queue = queue_at (held_store d slot p s) }; serial = serial_at (held_store d slot p s) }) (start_same b slot (held bank kind))
     ∙ ap (λ (f : ℕ → List Waiting). record { tick = n; controller = next; tables = record { stage = put (stage_at b s) slot (flying bank kind p); start = start_at b; queue = f }; serial = serial_at (held_store d slot p s) }) (keep_backlog (λ x. x.queue) counted (with_payload slot p s) d ld (λ x. refl))
     ∙ ap (λ (f : ℕ → ℕ). record { tick = n; controller = next; tables = record { stage = put (stage_at b s) slot (flying bank kind p); start = start_at b; queue = λ j. (backlog_at s j).queue }; serial = f }) (put_backlog (λ x. x.serial) counted (with_payload slot p s) d (suc (backlog_at s d).serial) ld (add-one (backlog_at s d).serial))
   where
@@ -148,8 +130,8 @@ turn_slot : (d share i : ℕ) → (1 ≤ share) × (share ≤ 16) → slot_in_tu
 turn_slot d share i b = let lt : i % share < share = mod-lt i (omega (arith, b.0)) in let m = b.1 in omega (arith, lt, m)
 
 free_is : (o : OpenSlot) (p : Payload) → is_free o ≡ is_still (open_stage o p)
-free_is Free p = refl
-free_is (Held b k) p = refl
+free_is None p = refl
+free_is (Some a) p = refl
 
 module _ (b : BoardView) (s : StoreView) (used : ℕ) (ok : Sound b s used) where
   pub shapes : (ℓ : ℕ) → length (pattern_at (settings_of b) ℓ).spots ≤ 8
@@ -198,13 +180,13 @@ module _ (b : BoardView) (s : StoreView) (used : ℕ) (ok : Sound b s used) wher
       go false q = leb-false 8 d q
 
   -- the slot in turn stands as its open slot says
-  stage_in_turn : (d n i : ℕ) → get_or b.shares d None ≡ Some n → is_free (get_or b.slots (slot_in_turn d n i) Free) ≡ is_still (stage_at b s (slot_in_turn d n i))
+  stage_in_turn : (d n i : ℕ) → get_or b.shares d None ≡ Some n → is_free (get_or b.slots (slot_in_turn d n i) free) ≡ is_still (stage_at b s (slot_in_turn d n i))
   unfolding stage_at
   stage_in_turn d n i e =
       let slot = slot_in_turn d n i in
       let at : get_or b.shares (slot / 64) None ≡ Some n = ap (λ k. get_or b.shares k None) (turn_slot d n i (ok.shares d n e)) ∙ e in
-      free_is (get_or b.slots slot Free) (get_or s.payloads slot Fake)
-      ∙ ap (λ (o : Option ℕ). is_still (slot_stage o (get_or b.slots slot Free) (vertex_in (lane_at b.lanes (slot / 8)) (slot % 8)) (get_or s.payloads slot Fake))) (sym at)
+      free_is (get_or b.slots slot free) (get_or s.payloads slot fake)
+      ∙ ap (λ (o : Option ℕ). is_still (slot_stage o (get_or b.slots slot free) (vertex_in (lane_at b.lanes (slot / 8)) (slot % 8)) (get_or s.payloads slot fake))) (sym at)
 
   module _ (t : ℕ) (c : List ℕ) (d bank : ℕ) (kind : Kind) (row : ℕ) where
     -- the checks of the domain's own side
@@ -320,7 +302,7 @@ module _ (b : BoardView) (s : StoreView) (used : ℕ) (ok : Sound b s used) wher
 
         sent : (o : Option ℕ) (slot : ℕ) (c' : List ℕ) → get_or b.shares d None ≡ o → Some slot ≡ turn_of d (backlog_at s d).serial o
             → c' ≡ after m (Call.take (record { slot = slot; domain = d; bank = bank; kind = kind })) c
-            → running_of t c' (with_slot slot (Held bank kind) b) (with_backlog counted d (with_payload slot (Real row (backlog_at s d).serial) s)) ≡ submitted m (running_of t c b s) d bank kind row (role_at o (get_or b.lanes d []))
+            → running_of t c' (with_slot slot (held bank kind) b) (with_backlog counted d (with_payload slot (real row (backlog_at s d).serial) s)) ≡ submitted m (running_of t c b s) d bank kind row (role_at o (get_or b.lanes d []))
         unfolding submitted serial_at
         sent None slot c' f e took = let z : ◌≡◌ {A = ℕ} 0 1 = (cc) in absurd (omega arith)
         sent (Some n) slot c' f e took =
@@ -330,17 +312,17 @@ module _ (b : BoardView) (s : StoreView) (used : ℕ) (ok : Sound b s used) wher
             let part : (backlog_at s d).serial % n < n = mod-lt (backlog_at s d).serial (omega (arith, bound.0)) in
             let lt : slot < 512 = omega (arith, at, low, part, bound.1) in
             let dom : slot / 64 ≡ d = ap (λ k. k / 64) at ∙ turn_slot d n (backlog_at s d).serial bound in
-            taken_is m t c c' b s d slot n bank kind (Real row (backlog_at s d).serial) (omega (arith, low, ok.backlogs)) (omega (arith, lt, ok.slots)) (omega (arith, lt, ok.payloads)) (ap (λ k. get_or b.shares k None) dom ∙ f) took
-            ∙ ap (taken_open m (running_of t c b s) d bank kind (Real row (backlog_at s d).serial)) at
+            taken_is m t c c' b s d slot n bank kind (real row (backlog_at s d).serial) (omega (arith, low, ok.backlogs)) (omega (arith, lt, ok.slots)) (omega (arith, lt, ok.payloads)) (ap (λ k. get_or b.shares k None) dom ∙ f) took
+            ∙ ap (taken_open m (running_of t c b s) d bank kind (real row (backlog_at s d).serial)) at
 
         pub sent_after : (slot : ℕ) (c' : List ℕ) (b' : BoardView) (s' s'' : StoreView) (i : ℕ) → i ≡ (backlog_at s d).serial → Some slot ≡ turn_at b s d
-            → b' ≡ with_slot slot (Held bank kind) b → c' ≡ after m (Call.take (record { slot = slot; domain = d; bank = bank; kind = kind })) c
-            → s' ≡ with_payload slot (Real row i) s → s'' ≡ with_backlog numbered d s'
+            → b' ≡ with_slot slot (held bank kind) b → c' ≡ after m (Call.take (record { slot = slot; domain = d; bank = bank; kind = kind })) c
+            → s' ≡ with_payload slot (real row i) s → s'' ≡ with_backlog numbered d s'
             → state_of g (settings_of b') (running_of t c' b' s'') ≡ (outcome m (state_of g (settings_of b) (running_of t c b s)) (calls.submit d bank kind row)).after
         sent_after slot c' b' s' s'' i at turn holds took carries counts =
-            let stored : s'' ≡ with_backlog counted d (with_payload slot (Real row (backlog_at s d).serial) s) =
-            counts ∙ ap (with_backlog numbered d) (carries ∙ ap (λ j. with_payload slot (Real row j) s) at) ∙ counts_on (with_payload slot (Real row (backlog_at s d).serial) s) refl in
+            let stored : s'' ≡ with_backlog counted d (with_payload slot (real row (backlog_at s d).serial) s) =
+            counts ∙ ap (with_backlog numbered d) (carries ∙ ap (λ j. with_payload slot (real row j) s) at) ∙ counts_on (with_payload slot (real row (backlog_at s d).serial) s) refl in
             ap (λ h. state_of h (settings_of b') (running_of t c' b' s'')) begun
             ∙ ap (λ (y : BoardView). running (settings_of y) (running_of t c' y s'')) holds
-            ∙ ap (λ (y : StoreView). running (settings_of b) (running_of t c' (with_slot slot (Held bank kind) b) y)) stored
+            ∙ ap (λ (y : StoreView). running (settings_of b) (running_of t c' (with_slot slot (held bank kind) b) y)) stored
             ∙ accepted_after _ (sent (get_or b.shares d None) slot c' refl turn took ∙ ap (submitted m (running_of t c b s) d bank kind row) (sym (role b used ok.board d)))

@@ -1,5 +1,6 @@
 -- Tables that nothing has happened to since they were made, but for settings.
-use Rattle.std.specs.Prelude.{Bool, true, false, not, ◌&&◌, ◌||◌, List, nat_lt}
+use Rattle.std.specs.Prelude.{◌≡◌, ℕ, Bool, true, false, not, ◌&&◌, ◌||◌, List, Option, nat_lt}
+use Rattle.std.specs.Option.{is_some}
 use Rattle.interface.specs.Meaning.{any, is_empty}
 use Rattle.patterns.specs.declared.vertex.Vertex.{Vertex}
 use Rattle.patterns.specs.declared.vertex.VertexState.{VertexState}
@@ -28,3 +29,7 @@ backlog_used x = not (is_empty x.queue) || nat_lt 0 x.serial
 -- every vertex is still, every open slot free, and no request has come
 unfoldable pub untouched : BoardView → StoreView → Bool
 untouched b s = not (lanes_moved b.lanes) && (not (any (λ o. not (is_free o)) b.slots) && not (any backlog_used s.backlogs))
+
+-- a run that has not begun, with no number of a next tick, has untouched tables
+abbrev pub Fresh : Option ℕ → BoardView → StoreView → Type 0
+Fresh next b s = (is_some next || untouched b s) ≡ true

@@ -17,7 +17,7 @@ use Rattle.scheduler.specs.Schedulers.{Told, refusal, accepted, taken, counts}
 -- a call as the model has it, with buffers for l lines and n notices
 abbrev pub made_call : ℕ → ℕ → Call → model.Call
 made_call l n (Open d share) = sets (opens d share)
-made_call l n (Lane d vs es rest) = sets (lane d vs.now es.now rest)
+made_call l n (Lane d s) = sets (lane d s.vertices.now s.edges.now s.rest)
 made_call l n (First tick) = sets (first tick)
 made_call l n Begin = begins
 made_call l n (Submit d b k row) = submit d b k row

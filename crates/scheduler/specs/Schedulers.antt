@@ -1,18 +1,35 @@
 -- A scheduler as a state of the model, and its answers as the model's replies.
-use Rattle.std.specs.Prelude.{ℕ, min, List, [], length, Some, None, Ok, Err, Option, Result}
+use Rattle.std.specs.Option.{is_some, unwrap_or}
+use Rattle.std.specs.Prelude.{ℕ, Bool, min, List, [], length, Some, None, Ok, Err, Option, Result}
 use Rattle.model.specs.declared.Line.{Line}
 use Rattle.model.specs.declared.Refusal.{Refusal}
 use Rattle.model.specs.Refusals.{number}
 use Rattle.model.specs.Refusals as refusals
-use Rattle.model.specs.Calls.{State, Reply, refused, good, serial, wrote}
-use Rattle.board.specs.Boards.{board_view, settings_of}
-use Rattle.store.specs.Stores.{store_view}
-use Rattle.scheduler.specs.declared.scheduler.Scheduler.{Scheduler}
+use Rattle.model.specs.Calls.{State, Running, Reply, refused, good, serial, wrote}
+use Rattle.board.specs.Boards.{BoardView, settings_of}
+use Rattle.store.specs.Stores.{StoreView}
 use Rattle.scheduler.specs.Views.{running_of, state_of}
 
--- over a controller whose state is read by `state`
-abbrev pub view : {C : Type 0} → (C → List ℕ) → Scheduler C → State
-view state s = state_of s.begun (settings_of (board_view s.board)) (running_of s.tick (state s.controller) (board_view s.board) (store_view s.store))
+-- what a scheduler holds: the next tick's number, once the run has begun, the controller's state, and the tables
+pub record Standing : Type 0 where
+  pub next : Option ℕ
+  pub controller : List ℕ
+  pub board : BoardView
+  pub store : StoreView
+
+abbrev pub has_begun : Standing → Bool
+has_begun s = is_some s.next
+
+-- the next tick's number, which is 0 before begin
+abbrev pub next_number : Standing → ℕ
+next_number s = unwrap_or s.next 0
+
+abbrev pub running_at : Standing → Running
+running_at s = running_of (next_number s) s.controller s.board s.store
+
+-- as the model has it
+abbrev pub view : Standing → State
+view s = state_of (has_begun s) (settings_of s.board) (running_at s)
 
 -- a refusal by its number, or that all is well
 abbrev pub reply_of : Option ℕ → Reply

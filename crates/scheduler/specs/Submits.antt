@@ -2,15 +2,14 @@
 use Rattle.std.specs.Prelude.{ℕ, ◌^◌, not, ◌||◌, [], length, Some, None, Option, nat_le, nat_lt, slice_index_or}
 use Rattle.interface.specs.Meaning.{any, check}
 use Rattle.interface.specs.declared.Kind.{Kind}
-use Rattle.board.specs.declared.slot.OpenSlot.TheVariants.{Free}
 use Rattle.board.specs.Sets.{is_unset_at}
-use Rattle.board.specs.Slots.{is_free, turn_of, lane_serves}
+use Rattle.board.specs.Slots.{free, is_free, turn_of, lane_serves}
 use Rattle.board.specs.Boards.{BoardView}
 use Rattle.store.specs.Stores.{StoreView, backlog_at}
 
 -- the slot in turn of an open domain is held
 abbrev pub held_check : BoardView → ℕ → Option ℕ
-held_check b slot = check (not (is_free (slice_index_or b.slots slot Free))) 14 None
+held_check b slot = check (not (is_free (slice_index_or b.slots slot free))) 14 None
 
 -- no vertex of a protected domain has the bank and kind, or 16 wait
 abbrev pub queue_checks : BoardView → StoreView → ℕ → ℕ → Kind → Option ℕ

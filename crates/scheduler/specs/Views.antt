@@ -1,18 +1,16 @@
 -- The scheduler's tables as the model has them: stage by slot, start by lane, queue and serial by domain.
+use Rattle.board.specs.Slots.{OpenSlot, free}
 use Rattle.std.specs.Prelude.{ℕ, ◌/◌, Bool, true, false, List, Some, None, Option, slice_index_or}
 use Rattle.interface.specs.declared.Kind.{Kind}
 use Rattle.patterns.specs.declared.vertex.Vertex.{Vertex}
 use Rattle.patterns.specs.declared.vertex.VertexState.{VertexState}
 use Rattle.patterns.specs.declared.vertex.VertexState.TheVariants.{Still, Flying, Done}
 use Rattle.patterns.specs.Lanes.{LaneView}
-use Rattle.model.specs.declared.Payload.{Payload}
-use Rattle.model.specs.declared.Payload.TheVariants.{Fake}
+use Rattle.model.specs.Payloads.{Payload, fake}
 use Rattle.model.specs.declared.Waiting.{Waiting}
 use Rattle.model.specs.Settings.{Settings}
 use Rattle.model.specs.Ticks.{Stage, still, flying, done, Tables}
 use Rattle.model.specs.Calls.{State, setting, running, Running}
-use Rattle.board.specs.declared.slot.OpenSlot.{OpenSlot}
-use Rattle.board.specs.declared.slot.OpenSlot.TheVariants.{Free, Held}
 use Rattle.board.specs.Boards.{BoardView}
 use Rattle.board.specs.Flights.{lane_at, vertex_at}
 use Rattle.store.specs.Stores.{StoreView, backlog_at}
@@ -20,8 +18,8 @@ use Rattle.store.specs.Stores.{StoreView, backlog_at}
 -- ---- slots
 
 abbrev pub open_stage : OpenSlot → Payload → Stage
-open_stage Free p = still
-open_stage (Held b k) p = flying b k p
+open_stage None p = still
+open_stage (Some a) p = flying a.bank a.kind p
 
 abbrev pub state_stage : ℕ → Kind → VertexState → Payload → Stage
 state_stage b k Still p = still
@@ -38,7 +36,7 @@ slot_stage (Some share) o v p = open_stage o p
 slot_stage None o v p = vertex_stage v p
 
 unfoldable pub stage_at : BoardView → StoreView → ℕ → Stage
-stage_at b s t = slot_stage (slice_index_or b.shares (t / 64) None) (slice_index_or b.slots t Free) (vertex_at b.lanes t) (slice_index_or s.payloads t Fake)
+stage_at b s t = slot_stage (slice_index_or b.shares (t / 64) None) (slice_index_or b.slots t free) (vertex_at b.lanes t) (slice_index_or s.payloads t fake)
 
 -- ---- lanes
 

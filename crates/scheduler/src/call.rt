@@ -1,14 +1,14 @@
 // The calls of a run, and their answers.
 use interface::Kind;
-use patterns::setting::{EdgeSetting, VertexSetting};
+use patterns::setting::LaneSetting;
 
 // One call to a scheduler.
 #[derive(Clone, Copy)]
 pub enum Call<'a> {
     // open: a domain and its share
     Open(u64, u64),
-    // lane: a domain, the vertices, the edges and the rest
-    Lane(u64, &'a [VertexSetting], &'a [EdgeSetting], u64),
+    // lane: a domain, and the lane's vertices, edges and rest
+    Lane(u64, LaneSetting<'a>),
     // first: the first tick's number
     First(u64),
     Begin,

@@ -1,31 +1,39 @@
 // A scheduler and its controller.
-ghost use Rattle.std.specs.Prelude.{◌≡◌, true, ◌||◌};
-ghost use Rattle.board.specs.Boards.{board_view};
-ghost use Rattle.store.specs.Stores.{store_view};
-ghost use Rattle.scheduler.specs.Fresh.{untouched};
-
-use board::board::Board;
+use crate::scheduler::front::Front;
 use board::departures::Departures;
+use interface::Controller;
+use std::marker::Model;
 use store::store::Store;
 
 mod calls;
 mod departures;
 mod events;
+mod front;
 mod settings;
 mod submits;
 mod ticks;
 
-// What is set and which slots are held lies on the board; rows, serials and the mark of a fake lie in the store, which is
-// never in sight where a request is handed to the controller.
+// What is set and which slots are held lies in front, with the controller; rows, serials and the mark of a fake lie in the
+// store, which is never in sight where a request is handed to the controller.
 #[derive(Drop)]
-pub struct Scheduler<C> {
-    controller: C,
-    board: Board,
+pub struct Scheduler<C: Controller> {
+    front: Front<C>,
     store: Store,
     // who leaves in the tick at hand
     departures: Departures,
     // the next tick's number, once the run has begun
-    tick: u64,
-    begun: bool,
-    ghost fresh: { (begun || untouched (board_view board) (store_view store)) ≡ true },
+    tick: Option<u64>,
+}
+
+// What a clause sees: the next tick's number, the controller's state and the tables, which are untouched before begin.
+// `view` makes the model's state of it, which cannot be the value itself, since its tables are functions.
+impl<C: Controller> Model for Scheduler<C> {
+    ghost use Rattle.scheduler.specs.Fresh.{Fresh};
+    ghost use Rattle.scheduler.specs.Schedulers.{Standing};
+
+    ghost Value = { Standing };
+
+    ghost view = { λ s. record { next = s.tick; controller = C.state s.front.controller; board = s.front.board; store = s.store } };
+
+    ghost invariant = { λ s. Fresh s.tick s.front.board s.store };
 }

@@ -1,3 +1,4 @@
 pub mod Pages
+pub mod Written
 pub mod Stores
 pub mod Lines

@@ -5,8 +5,7 @@ use Rattle.model.specs.declared.Letter.{Letter}
 use Rattle.model.specs.declared.Letter.TheVariants as letter
 use Rattle.model.specs.declared.Line.{Line}
 use Rattle.model.specs.declared.Notice.{Notice}
-use Rattle.model.specs.declared.Payload.{Payload}
-use Rattle.model.specs.declared.Payload.TheVariants.{Fake}
+use Rattle.model.specs.Payloads.{Payload, fake}
 use Rattle.model.specs.Ticks.{row_of, payload_notice, oldest}
 use Rattle.store.specs.Stores.{StoreView, backlog_at, with_backlog, with_payload, unqueued}
 
@@ -14,7 +13,7 @@ abbrev pub line_with : Letter → ℕ → Request → Payload → Line
 line_with l n q p = record { letter = l; tick = n; domain = q.domain; slot = q.slot; bank = q.bank; kind = q.kind; row = row_of p }
 
 abbrev pub payload_at : StoreView → ℕ → Payload
-payload_at s t = slice_index_or s.payloads t Fake
+payload_at s t = slice_index_or s.payloads t fake
 
 -- the line of a request in flight, if there is one
 abbrev pub flight_line : Letter → ℕ → StoreView → Option Request → List Line

@@ -1,22 +1,16 @@
 -- The hidden side of the tables as plain values.
-use Rattle.std.specs.Prelude.{ℕ, ◌+◌, ◌^◌, cond, not, ◌&&◌, List, [], ◌∷◌, ◌++◌, map, length, replicate, vec_items, nat_lt, slice_index_or, slice_set}
+use Rattle.std.specs.Prelude.{◌≡◌, ℕ, ◌+◌, ◌^◌, cond, ◌&&◌, List, [], ◌∷◌, ◌++◌, length, replicate, Option, nat_lt, slice_index_or, slice_set}
 use Rattle.interface.specs.declared.Kind.{Kind}
 use Rattle.patterns.specs.Lanes.{changed}
-use Rattle.std.specs.List.{prefix_len}
+use Rattle.std.specs.List.{position}
 use Rattle.model.specs.Ticks.{without, matches}
 use Rattle.model.specs.declared.Waiting.{Waiting}
-use Rattle.model.specs.declared.Payload.{Payload}
-use Rattle.model.specs.declared.Payload.TheVariants.{Fake}
-use Rattle.store.specs.declared.backlog.Backlog.{Backlog}
-use Rattle.store.specs.declared.store.Store.{Store}
+use Rattle.model.specs.Payloads.{Payload, fake}
 
 -- the requests of one domain: its queue, and the serial of its next request
 pub record BacklogView : Type 0 where
   pub queue : List Waiting
   pub serial : ℕ
-
-abbrev pub backlog_view : Backlog → BacklogView
-backlog_view b = record { queue = vec_items b.queue; serial = b.serial }
 
 abbrev pub no_backlog : BacklogView
 no_backlog = record { queue = []; serial = 0 }
@@ -41,19 +35,20 @@ numbered x = cond (nat_lt x.serial (10 ^ 18)) (counted x) x
 abbrev pub unqueued : ℕ → Kind → BacklogView → BacklogView
 unqueued b k x = record { queue = without b k x.queue; serial = x.serial }
 
--- how many stand before the oldest request with this bank and kind
-abbrev pub place_of : ℕ → Kind → List Waiting → ℕ
-place_of b k ws = prefix_len (λ (w : Waiting). not (matches b k w)) ws
+-- the place of the oldest request with this bank and kind
+abbrev pub place_of : ℕ → Kind → List Waiting → Option ℕ
+place_of b k ws = position (matches b k) ws
 
 pub record StoreView : Type 0 where
   pub backlogs : List BacklogView
   pub payloads : List Payload
 
-abbrev pub store_view : Store → StoreView
-store_view s = record { backlogs = map backlog_view (vec_items s.backlogs); payloads = vec_items s.payloads }
+-- of 8 domains and 512 slots
+abbrev pub Sized : StoreView → Type 0
+Sized s = (length s.backlogs ≡ 8) × (length s.payloads ≡ 512)
 
 unfoldable pub no_payloads : List Payload
-no_payloads = replicate 512 Fake
+no_payloads = replicate 512 fake
 
 abbrev pub new_store : StoreView
 new_store = record { backlogs = replicate 8 no_backlog; payloads = no_payloads }

@@ -2,5 +2,5 @@
 #![tactic(auto)]
 
 pub mod backlog;
-mod page;
+pub mod page;
 pub mod store;

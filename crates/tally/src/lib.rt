@@ -2,26 +2,23 @@
 #![tactic(auto)]
 
 ghost use Rattle.std.specs.Prelude.{◌≡◌, IfOk, string_bytes};
-ghost use Rattle.tally.specs.Counts.{counted, sum_of, number, refused, feed_refusal, fed, none, closed, report_text, CountsLines};
+ghost use Rattle.tally.specs.Counts.{is_letter, lines_with, counted, sum_of, number, refused, feed_refusal, fed, none, closed, report_text, CountsLines};
 
 use model::{Letter, Line};
 use std::alloc::{AllocError, Global};
 
-// Why a feed is refused.
-#[derive(Clone, Copy)]
+// Why a feed is refused, with the number by which each refusal is known.
+#[derive(Clone, Copy, PartialEq, Eq, Debug)]
 pub enum Refusal {
     // a count would pass 10^18
-    CountLimit,
+    CountLimit = 21,
 }
 
 impl Refusal {
-    // The number by which the refusal is known.
     pub fn number(self) -> u8
         ensures { result ≡ number self }
     {
-        match self {
-            Refusal::CountLimit => 21,
-        }
+        self as u8
     }
 }
 
@@ -35,33 +32,30 @@ struct Counts {
 
 const LIMIT: u64 = 1_000_000_000_000_000_000;
 
+// How many lines have a letter.
+fn lines_of(lines: &[Line], letter: Letter) -> u64
+    ensures { result ≡ lines_with (is_letter letter) lines.now }
+{
+    lines.iter().filter(|line| line.letter == letter).count() as u64
+}
+
 fn count(lines: &[Line]) -> Counts
     ensures { result ≡ counted lines.now }
 {
-    let mut taken = 0;
-    let mut issued = 0;
-    let mut done = 0;
-    for line in lines {
-        match line.letter {
-            Letter::T => taken += 1,
-            Letter::I => issued += 1,
-            Letter::D => done += 1,
-        }
-    }
     Counts {
-        taken,
-        issued,
-        done,
+        taken: lines_of(lines, Letter::T),
+        issued: lines_of(lines, Letter::I),
+        done: lines_of(lines, Letter::D),
     }
 }
 
 fn sum(count: u64, more: u64) -> Result<u64, Refusal>
     ensures { result ≡ sum_of count more }
 {
-    match count.checked_add(more) {
-        Some(total) if total <= LIMIT => Ok(total),
-        _ => Err(Refusal::CountLimit),
-    }
+    count
+        .checked_add(more)
+        .filter(|total| *total <= LIMIT)
+        .ok_or(Refusal::CountLimit)
 }
 
 // Counts the lines of the ticks that it is fed, until it is closed.
@@ -72,6 +66,7 @@ pub struct Tally {
 
 impl Tally {
     // A tally that has counted nothing. After any feeds each count is the number of its lines in those that were accepted.
+    #[tactic(auto, using(crate::proofs::Feeding::counts_lines))]
     pub fn new() -> Tally
         ensures value { result ≡ none }
         ensures law { CountsLines }

@@ -6,7 +6,6 @@ use Rattle.tokens.specs.declared.lexer.Token.{Token}
 use Rattle.tokens.specs.declared.lexer.Token.TheVariants as token
 use Rattle.tokens.specs.declared.lexer.Fault.{Fault}
 use Rattle.tokens.specs.declared.lexer.Fault.TheVariants.{UnknownByte, BadNumber}
-use Rattle.tokens.specs.declared.lexer.Lexer.{Lexer}
 use Rattle.tokens.specs.Classes.{in_class}
 use Rattle.tokens.specs.Numbers.{number_of}
 
@@ -44,9 +43,6 @@ fault_place (BadNumber at) = at
 pub record Cursor : Type 0 where
   pub text : List ℕ
   pub at : ℕ
-
-abbrev pub cursor : Lexer → Cursor
-cursor l = record { text = l.text.now; at = l.at }
 
 abbrev pub started : List ℕ → ℕ → Cursor
 started text at = record { text = text; at = at }

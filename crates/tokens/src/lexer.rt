@@ -1,9 +1,10 @@
 // The lexer: the next token of a line, or the fault that stands there.
 ghost use Rattle.std.specs.Prelude.{◌≡◌, ◌-◌, ◌≤◌, length, take, drop};
-ghost use Rattle.tokens.specs.Lexemes.{seen, cursor, started, at_start, next_lexeme, moved, fault_number, fault_place};
+ghost use Rattle.tokens.specs.Lexemes.{seen, started, at_start, next_lexeme, moved, fault_number, fault_place};
 
 use crate::numbers::number;
 use crate::runs::{Class, run_end};
+use std::marker::Model;
 
 // A part of the text, and the place of its first byte.
 #[derive(Clone, Copy)]
@@ -22,7 +23,7 @@ pub enum Token<'a> {
 }
 
 // What is no token, by its place.
-#[derive(Clone, Copy, Debug, PartialEq)]
+#[derive(Clone, Copy, PartialEq, Eq, Debug)]
 pub enum Fault {
     // a byte that no token has
     UnknownByte(usize),
@@ -35,6 +36,7 @@ impl Fault {
     pub fn number(self) -> u8
         ensures { result ≡ fault_number self }
     {
+        // A match, since a variant that holds a place has no number of its own.
         match self {
             Fault::UnknownByte(_) => 22,
             Fault::BadNumber(_) => 23,
@@ -59,6 +61,14 @@ pub struct Lexer<'a> {
     at: usize,
 }
 
+impl<'a> Model for Lexer<'a> {
+    ghost use Rattle.tokens.specs.Lexemes.{Cursor, started};
+
+    ghost Value = { Cursor };
+
+    ghost view = { λ l. started l.text.now l.at };
+}
+
 fn cut<'a>(text: &'a [u8], at: usize, end: usize) -> Piece<'a>
     requires from { at ≤ end }
     requires to { end ≤ length text.now }
@@ -74,30 +84,29 @@ fn cut<'a>(text: &'a [u8], at: usize, end: usize) -> Piece<'a>
 impl<'a> Lexer<'a> {
     // Begins at the text's first byte.
     pub fn new(text: &'a [u8]) -> Lexer<'a>
-        ensures { cursor result ≡ at_start text.now }
+        ensures { result ≡ at_start text.now }
     {
         Lexer { text, at: 0 }
     }
 
     // Begins at a place of the text.
     pub fn starting_at(text: &'a [u8], at: usize) -> Lexer<'a>
-        ensures { cursor result ≡ started text.now at }
+        ensures { result ≡ started text.now at }
     {
         Lexer { text, at }
     }
 
     // The next token of the text, none at its end. A fault stays where it is.
     pub fn next(&mut self) -> Result<Option<Token<'a>>, Fault>
-        ensures answer { seen result ≡ next_lexeme (cursor self.old) }
-        ensures after { cursor self.new ≡ moved (cursor self.old) }
+        ensures answer { seen result ≡ next_lexeme self.old }
+        ensures after { self.new ≡ moved self.old }
     {
         let text = self.text;
         let at = run_end(text, self.at, Class::Space);
-        if at >= text.len() {
+        let Some(byte) = text.get(at).copied() else {
             self.at = at;
             return Ok(None);
-        }
-        let byte = text[at];
+        };
         if byte == b'(' {
             self.at = at + 1;
             return Ok(Some(Token::Open(cut(text, at, at + 1))));
@@ -116,9 +125,7 @@ impl<'a> Lexer<'a> {
         }
         let end = run_end(text, at, Class::Digit);
         let digits = cut(text, at, end);
-        let Some(value) = number(digits.bytes) else {
-            return Err(Fault::BadNumber(at));
-        };
+        let value = number(digits.bytes).ok_or(Fault::BadNumber(at))?;
         self.at = end;
         Ok(Some(Token::Number(digits, value)))
     }

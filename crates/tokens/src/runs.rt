@@ -1,8 +1,9 @@
 // The classes of bytes, and the runs of one class.
-ghost use Rattle.std.specs.Prelude.{◌≡◌, ◌+◌, drop};
+ghost use Rattle.std.specs.Prelude.{◌≡◌, ◌+◌, ◌≤◌, length, drop};
 ghost use Rattle.std.specs.List.{prefix_len};
 ghost use Rattle.tokens.specs.Classes.{in_class};
 
+// An enum, since the definition of a lexeme names the classes too; a closure would need such a name beside it at each call.
 #[derive(Clone, Copy)]
 pub enum Class {
     Space,
@@ -22,13 +23,21 @@ impl Class {
     }
 }
 
+// How many bytes of a class a text begins with.
+fn run(text: &[u8], class: Class) -> usize
+    ensures count { result ≡ prefix_len (in_class class) text.now }
+    ensures within { result ≤ length text.now }
+{
+    text.iter().take_while(|byte| class.has(**byte)).count()
+}
+
 // Where the longest run of a class ends that begins at a place.
 pub fn run_end(text: &[u8], from: usize, class: Class) -> usize
-    ensures { result ≡ from + prefix_len (in_class class) (drop from text.now) }
+    ensures end { result ≡ from + prefix_len (in_class class) (drop from text.now) }
+    ensures within { from ≤ length text.now → result ≤ length text.now }
 {
-    let mut end = from;
-    while end < text.len() && class.has(text[end]) {
-        end += 1;
+    match text.get(from..) {
+        Some(rest) => from + run(rest, class),
+        None => from,
     }
-    end
 }

@@ -1,12 +1,10 @@
 -- Issues come at least 46 steps apart, so that each request is done before the next is issued.
-use Rattle.std.proofs.Common.{◌≡◌, ℕ, zero, suc, ◌+◌, ◌-◌, ◌%◌, ◌<◌, Bool, true, false, cond, ◌&&◌, ◌||◌, List, [], ◌∷◌, ◌++◌, Some, refl, ap, ◌∙◌, ⊎_elim, arith}
+use Rattle.std.proofs.Common.{◌≡◌, ℕ, zero, suc, ◌+◌, ◌-◌, ◌%◌, ◌<◌, Bool, true, false, cond, ◌&&◌, ◌||◌, List, [], ◌∷◌, ◌++◌, Some, None, Option, refl, ap, ◌∙◌, ⊎_elim, arith}
 use borrow.Author.Tests.{lt-leb}
 use Rattle.interface.specs.History.{Issuance}
 use Rattle.interface.specs.declared.Request.{Request}
 use Rattle.interface.proofs.Bools.{or_left, or_true}
 use Rattle.interface.proofs.Slots.{marked}
-use Rattle.held.specs.declared.entries.Stage.{Stage}
-use Rattle.held.specs.declared.entries.Stage.TheVariants.{Waiting, Issued}
 use Rattle.held.specs.declared.entries.Entry.{Entry}
 use Rattle.held.specs.Entries.{done_delay, expired, is_issued, key, has, next_of, issue_next}
 use Rattle.held.proofs.Stepping.{at_head, no_next, delay_most}
@@ -29,18 +27,18 @@ countdowns_alone k [] x z e = absurd (no_next k x e)
 countdowns_alone k (h ∷ hs) x z e =
     ⊎_elim
     (λ f.
-    let rest = skip h.stage (countdowns hs) z in
-    ap countdowns f.1 ∙ ap (counting (Issued (done_delay h.request.kind)) h.request.slot) rest.0 ∙ counting_delay h.request.kind h.request.slot
+    let rest = skip h.until_done (countdowns hs) z in
+    ap countdowns f.1 ∙ ap (counting (Some (done_delay h.request.kind)) h.request.slot) rest.0 ∙ counting_delay h.request.kind h.request.slot
     ∙ ap {B = List (ℕ × ℕ)} (λ (y : Entry). (y.request.slot, done_delay y.request.kind - 1) ∷ []) f.0.2)
     (λ f.
-    let rest = skip h.stage (countdowns hs) z in
+    let rest = skip h.until_done (countdowns hs) z in
     ap countdowns f.1 ∙ rest.1 (countdowns (issue_next k hs)) ∙ countdowns_alone k hs x rest.0 f.0)
     (at_head k h hs x e)
   where
-    skip : (s : Stage) (cs : List (ℕ × ℕ)) → counting s h.request.slot cs ≡ [] → (cs ≡ []) × ((ds : List (ℕ × ℕ)) → counting s h.request.slot ds ≡ ds)
-    skip Waiting cs c = (c, λ ds. refl)
-    skip (Issued zero) cs c = (c, λ ds. refl)
-    skip (Issued (suc m)) cs c = let w : ◌≡◌ {A = ℕ} 0 1 = cc in absurd (omega arith)
+    skip : (s : Option ℕ) (cs : List (ℕ × ℕ)) → counting s h.request.slot cs ≡ [] → (cs ≡ []) × ((ds : List (ℕ × ℕ)) → counting s h.request.slot ds ≡ ds)
+    skip None cs c = (c, λ ds. refl)
+    skip (Some zero) cs c = (c, λ ds. refl)
+    skip (Some (suc m)) cs c = let w : ◌≡◌ {A = ℕ} 0 1 = cc in absurd (omega arith)
 
 -- ---- issues that are 46 steps apart
 

@@ -15,8 +15,7 @@ use Rattle.interface.proofs.Takes.{take_ok}
 use Rattle.interface.proofs.Bools.{and_parts, same}
 use Rattle.interface.proofs.Slots.{Apart, apart_append, apart_dropped, length_dropped, some_entries, collected_held, map_append}
 use Rattle.held.specs.declared.entries.Entry.{Entry}
-use Rattle.held.specs.declared.entries.Whose.TheVariants.{Domain}
-use Rattle.held.specs.Entries.{later, key, has, dones, candidate, next_of, issue_next, issued_now, reading_of, new_entry, admits}
+use Rattle.held.specs.Entries.{later, key, has, dones, candidate, next_of, issue_next, issued_now, reading_of, new_entry, of_domain}
 use Rattle.held.specs.Rows.{Rows, passed, issue_of}
 use Rattle.held.proofs.Stepping.{Stepped, Ample, apart_later, apart_issued, length_issued, length_dones, stepped_held, stepped_proper, stepped_punctual}
 use Rattle.held.proofs.Spans.{times_more, Timely, next, timely_less, timely_later, timely_append, timely_dropped, timely_none, timely_issued, timely_other, next_left, enough}
@@ -24,7 +23,7 @@ use Rattle.turns.specs.State.{State, issue_for, turns_span, state_meaning, state
 
 -- the requests of a domain
 abbrev pub of : ℕ → Request → Bool
-of d = admits (Domain d)
+of d = of_domain d
 
 -- ---- domains are below 8
 
@@ -62,7 +61,7 @@ low_append (x ∷ hs) h l d = (l.0, low_append hs h l.1 d)
 abbrev pub after_turn : Rows → (Request → Bool) → Bool → Rows
 after_turn t k b = cond b (issue_of k (passed t) (next_of k (map later t.entries))) (passed t)
 
-pub turn_is : (t : Rows) (d : ℕ) (b : Bool) → t.events ≡ [] → length t.entries ≤ 32 → issue_for (cond b (Some (Domain d)) None) (passed t) ≡ after_turn t (of d) b
+pub turn_is : (t : Rows) (d : ℕ) (b : Bool) → t.events ≡ [] → length t.entries ≤ 32 → issue_for (cond b (Some d) None) (passed t) ≡ after_turn t (of d) b
 turn_is t d true e f =
     let l = length_dones (map later t.entries) in
     let m = length-map t.entries later in
@@ -235,8 +234,8 @@ ample : (hs : List Entry) → Low hs → Somehow hs → Ample hs
 ample [] l s = tt
 ample (h ∷ hs) l s =
     let a = s h.request.domain l.0 in (
-      enough (of h.request.domain h.request) a.0 h.stage h.left (same h.request.domain) a.1.0,
-      ample hs l.1 (λ d lo. (next 368 (of d) (of d h.request) (s d lo).0 h.stage, (s d lo).1.1)),
+      enough (of h.request.domain h.request) a.0 h.until_done h.left (same h.request.domain) a.1.0,
+      ample hs l.1 (λ d lo. (next 368 (of d) (of d h.request) (s d lo).0 h.until_done, (s d lo).1.1)),
     )
 
 state_lawful : Lawful state_meaning

@@ -4,19 +4,13 @@ use Rattle.std.proofs.Common.{ap}
 use Rattle.interface.specs.Meaning.{Meaning}
 use Rattle.interface.specs.Coded.{coded}
 use Rattle.interface.specs.Codec.{Codec, number_codec, both, via}
-use Rattle.held.specs.declared.entries.Whose.{Whose}
-use Rattle.held.specs.declared.entries.Whose.TheVariants.{Domain}
-use Rattle.held.specs.Entries.{admits}
-use Rattle.held.specs.Rows.{Rows, rows, no_rows, table_meaning, issue_oldest, rows_codec}
-use Rattle.turns.specs.declared.controller.Turns.{Turns}
+use Rattle.held.specs.Entries.{of_domain}
+use Rattle.held.specs.Rows.{Rows, no_rows, table_meaning, issue_oldest, rows_codec}
 
 pub record State : Type 0 where
   pub rows : Rows
   -- the number of the next step in its round: the steps since the reset, modulo 368
   pub step : ℕ
-
-abbrev pub view : Turns → State
-view c = record { rows = rows c.table; step = c.step }
 
 abbrev pub beginning : State
 beginning = record { rows = no_rows; step = 0 }
@@ -31,13 +25,13 @@ with_rows s t = record { rows = t; step = s.step }
 -- ---- a step
 
 -- Whose turn a step is, by its number in the round: domain d has step 46 × d.
-abbrev pub whose_turn : ℕ → Option Whose
-whose_turn n = cond (n % 46 == 0) (Some (Domain (n / 46))) None
+abbrev pub whose_turn : ℕ → Option ℕ
+whose_turn n = cond (n % 46 == 0) (Some (n / 46)) None
 
 -- the oldest request that waits, of those whose turn it is, is issued; if none waits, the turn is lost
-abbrev pub issue_for : Option Whose → Rows → Rows
+abbrev pub issue_for : Option ℕ → Rows → Rows
 issue_for None t = t
-issue_for (Some w) t = issue_oldest (admits w) t
+issue_for (Some d) t = issue_oldest (of_domain d) t
 
 abbrev pub issue_in_turn : State → State
 issue_in_turn s = with_rows s (issue_for (whose_turn s.step) s.rows)
@@ -76,6 +70,3 @@ state_back s = ap (λ p. p.0) (state_codec.back s [])
 
 abbrev pub turns_meaning : Meaning (List ℕ)
 turns_meaning = coded state_codes state_of state_meaning
-
-abbrev pub turns_state : Turns → List ℕ
-turns_state c = state_codes (view c)

@@ -3,8 +3,7 @@ ghost use Rattle.std.specs.Prelude.{◌≡◌};
 ghost use Rattle.std.specs.Option.{option_map};
 ghost use Rattle.patterns.specs.Due.{due};
 ghost use Rattle.patterns.specs.Greatest.{IsDue};
-ghost use Rattle.patterns.specs.Lanes.{done_by, lane_view, due_in};
-ghost use Rattle.patterns.specs.Ticks.{later_of};
+ghost use Rattle.patterns.specs.Lanes.{done_by, due_in};
 
 use crate::edge::Edge;
 use crate::lane::Lane;
@@ -15,8 +14,8 @@ impl Lane {
     // The tick at which a vertex is due: the greatest, over the edges that come into it, of the source's Done tick and the
     // weight, none until all those sources are done in this round; the start where no edge comes in.
     pub fn due_tick(&self, vertex: usize) -> Option<u64>
-        ensures value { result ≡ due_in (lane_view self.now) vertex }
-        ensures greatest { IsDue (lane_view self.now) vertex result }
+        ensures value { result ≡ due_in self.now vertex }
+        ensures greatest { IsDue self.now vertex result }
     {
         due_among(
             self.edges.as_slice(),
@@ -33,31 +32,16 @@ fn due_among(edges: &[Edge], vertices: &[Vertex], start: u64, vertex: usize) -> 
     let mut latest = None;
     for edge in edges {
         if edge.comes_into(vertex) {
-            let Some(done) = done_at(vertices, edge.source as usize) else {
-                return None;
-            };
-            latest = Some(later_of(latest, edge.release(done)));
+            let done = done_at(vertices, edge.source as usize)?;
+            latest = latest.max(Some(edge.release(done)));
         }
     }
     Some(latest.unwrap_or(start))
-}
-
-// The later of a tick and what there is so far.
-fn later_of(so_far: Option<u64>, tick: u64) -> u64
-    ensures { result ≡ later_of so_far tick }
-{
-    match so_far {
-        Some(other) => other.max(tick),
-        None => tick,
-    }
 }
 
 // The Done tick of a vertex, if there is such a vertex and it is done in this round.
 fn done_at(vertices: &[Vertex], vertex: usize) -> Option<Tick>
     ensures { option_map (λ t. t.number) result ≡ done_by vertices.now vertex }
 {
-    if vertex >= vertices.len() {
-        return None;
-    }
-    vertices[vertex].done_tick()
+    vertices.get(vertex)?.done_tick()
 }

@@ -2,7 +2,7 @@
 ghost use Rattle.std.specs.Prelude.{◌≡◌, ◌+◌, map, length};
 ghost use Rattle.std.specs.Option.{option_map};
 ghost use Rattle.patterns.specs.Due.{round_end};
-ghost use Rattle.patterns.specs.Lanes.{done_by, lane_view, renewed, advanced, started};
+ghost use Rattle.patterns.specs.Lanes.{done_by, renewed, advanced, started};
 ghost use Rattle.patterns.specs.Moves.{moved};
 ghost use Rattle.patterns.specs.declared.vertex.VertexEvent.TheVariants.{NewRound};
 
@@ -13,19 +13,21 @@ use crate::vertex::{Vertex, VertexEvent};
 impl Lane {
     // An event moves one vertex on; a vertex that is not there is left alone.
     pub(crate) fn advance(&mut self, vertex: usize, event: VertexEvent)
-        ensures { lane_view self.new ≡ advanced event vertex (lane_view self.old) }
+        ensures { self.new ≡ advanced event vertex self.old }
     {
-        if vertex < self.vertices.len() {
-            self.vertices[vertex].advance(event);
+        if let Some(chosen) = self.vertices.get_mut(vertex) {
+            chosen.advance(event);
         }
     }
 
     // Once all vertices are done, all become still, and the next start is the last Done tick and the rest.
     pub(crate) fn renew(&mut self)
-        ensures { lane_view self.new ≡ renewed (lane_view self.old) }
+        ensures { self.new ≡ renewed self.old }
     {
         if let Some(end) = round_end(self.vertices.as_slice()) {
-            renew_all(self.vertices.as_mut_slice());
+            for vertex in self.vertices.iter_mut() {
+                vertex.advance(VertexEvent::NewRound);
+            }
             self.start = self.start_after(end);
         }
     }
@@ -39,17 +41,9 @@ impl Lane {
 
     // The first round starts at the run's first tick.
     pub(crate) fn start_at(&mut self, tick: u64)
-        ensures { lane_view self.new ≡ started tick (lane_view self.old) }
+        ensures { self.new ≡ started tick self.old }
     {
         self.start = tick;
-    }
-}
-
-fn renew_all(vertices: &mut [Vertex])
-    ensures { vertices.new ≡ map (moved NewRound) vertices.old }
-{
-    for vertex in vertices.iter_mut() {
-        vertex.advance(VertexEvent::NewRound);
     }
 }
 
@@ -59,10 +53,8 @@ fn round_end(vertices: &[Vertex]) -> Option<Tick>
 {
     let mut last = None;
     for vertex in vertices {
-        let Some(done) = vertex.done_tick() else {
-            return None;
-        };
-        last = Some(done.later_of(last));
+        let done = vertex.done_tick()?;
+        last = last.max(Some(done));
     }
     last
 }

@@ -25,11 +25,11 @@ impl<C: Controller> Scheduler<C> {
         lines: &mut [Line],
         notices: &mut [Notice],
     ) -> Result<Answer, Refusal>
-        ensures answer { told result ≡ told_of (length lines.old) (length notices.old) (outcome C.meaning (view C.state self.old) (made_call (length lines.old) (length notices.old) call.entry)).reply }
-        ensures after { view C.state self.new ≡ (outcome C.meaning (view C.state self.old) (made_call (length lines.old) (length notices.old) call.entry)).after }
-        ensures lines { lines.new ≡ filled (lines_in (outcome C.meaning (view C.state self.old) (made_call (length lines.old) (length notices.old) call.entry)).reply) lines.old }
-        ensures notices { notices.new ≡ filled (notices_in (outcome C.meaning (view C.state self.old) (made_call (length lines.old) (length notices.old) call.entry)).reply) notices.old }
-        ensures history { (b : List ℕ) (cs : List ModelCall) → view C.state self.old ≡ state_after C.meaning (new_state C.meaning b) cs → Extends C.meaning b cs (made_call (length lines.old) (length notices.old) call.entry) (view C.state self.new) (seen result lines.new notices.new) }
+        ensures answer { told result ≡ told_of (length lines.old) (length notices.old) (outcome C.meaning (view self.old) (made_call (length lines.old) (length notices.old) call.entry)).reply }
+        ensures after { view self.new ≡ (outcome C.meaning (view self.old) (made_call (length lines.old) (length notices.old) call.entry)).after }
+        ensures lines { lines.new ≡ filled (lines_in (outcome C.meaning (view self.old) (made_call (length lines.old) (length notices.old) call.entry)).reply) lines.old }
+        ensures notices { notices.new ≡ filled (notices_in (outcome C.meaning (view self.old) (made_call (length lines.old) (length notices.old) call.entry)).reply) notices.old }
+        ensures history { (b : List ℕ) (cs : List ModelCall) → view self.old ≡ state_after C.meaning (new_state C.meaning b) cs → Extends C.meaning b cs (made_call (length lines.old) (length notices.old) call.entry) (view self.new) (seen result lines.new notices.new) }
         ensures promises { Promises C.meaning }
     {
         self.perform(call, lines, notices)
@@ -41,47 +41,24 @@ impl<C: Controller> Scheduler<C> {
         lines: &mut [Line],
         notices: &mut [Notice],
     ) -> Result<Answer, Refusal>
-        ensures answer { told result ≡ told_of (length lines.old) (length notices.old) (outcome C.meaning (view C.state self.old) (made_call (length lines.old) (length notices.old) call.entry)).reply }
-        ensures after { view C.state self.new ≡ (outcome C.meaning (view C.state self.old) (made_call (length lines.old) (length notices.old) call.entry)).after }
-        ensures lines { lines.new ≡ filled (lines_in (outcome C.meaning (view C.state self.old) (made_call (length lines.old) (length notices.old) call.entry)).reply) lines.old }
-        ensures notices { notices.new ≡ filled (notices_in (outcome C.meaning (view C.state self.old) (made_call (length lines.old) (length notices.old) call.entry)).reply) notices.old }
+        ensures answer { told result ≡ told_of (length lines.old) (length notices.old) (outcome C.meaning (view self.old) (made_call (length lines.old) (length notices.old) call.entry)).reply }
+        ensures after { view self.new ≡ (outcome C.meaning (view self.old) (made_call (length lines.old) (length notices.old) call.entry)).after }
+        ensures lines { lines.new ≡ filled (lines_in (outcome C.meaning (view self.old) (made_call (length lines.old) (length notices.old) call.entry)).reply) lines.old }
+        ensures notices { notices.new ≡ filled (notices_in (outcome C.meaning (view self.old) (made_call (length lines.old) (length notices.old) call.entry)).reply) notices.old }
     {
         match call {
-            Call::Open(domain, share) => accepted(self.open(domain, share)),
-            Call::Lane(domain, vertices, edges, rest) => {
-                accepted(self.lane(domain, vertices, edges, rest))
-            }
-            Call::First(number) => accepted(self.first(number)),
-            Call::Begin => accepted(self.begin()),
-            Call::Submit(domain, bank, kind, row) => taken(self.submit(domain, bank, kind, row)),
-            Call::Tick => ticked(self.tick(lines, notices)),
+            Call::Open(domain, share) => self.open(domain, share).map(|()| Answer::Accepted),
+            Call::Lane(domain, setting) => self
+                .lane(domain, setting.vertices, setting.edges, setting.rest)
+                .map(|()| Answer::Accepted),
+            Call::First(number) => self.first(number).map(|()| Answer::Accepted),
+            Call::Begin => self.begin().map(|()| Answer::Accepted),
+            Call::Submit(domain, bank, kind, row) => self
+                .submit(domain, bank, kind, row)
+                .map(Answer::Taken),
+            Call::Tick => self
+                .tick(lines, notices)
+                .map(|(written, told)| Answer::Ticked(written, told)),
         }
-    }
-}
-
-fn accepted(res: Result<(), Refusal>) -> Result<Answer, Refusal>
-    ensures { (l n : ℕ) → told result ≡ told_of l n (replied res) }
-{
-    match res {
-        Ok(()) => Ok(Answer::Accepted),
-        Err(refusal) => Err(refusal),
-    }
-}
-
-fn taken(res: Result<u64, Refusal>) -> Result<Answer, Refusal>
-    ensures { (l n : ℕ) → told result ≡ told_of l n (serial_reply res) }
-{
-    match res {
-        Ok(serial) => Ok(Answer::Taken(serial)),
-        Err(refusal) => Err(refusal),
-    }
-}
-
-fn ticked(res: Result<(usize, usize), Refusal>) -> Result<Answer, Refusal>
-    ensures { told result ≡ tick_told res }
-{
-    match res {
-        Ok((lines, notices)) => Ok(Answer::Ticked(lines, notices)),
-        Err(refusal) => Err(refusal),
     }
 }

@@ -2,48 +2,51 @@
 ghost use Rattle.std.specs.Prelude.{◌≡◌};
 ghost use Rattle.interface.specs.Meaning.{after, Call};
 ghost use Rattle.patterns.specs.declared.vertex.VertexEvent.TheVariants.{Due};
-ghost use Rattle.board.specs.declared.slot.OpenSlot.TheVariants.{Held};
-ghost use Rattle.board.specs.Boards.{board_view, with_slot, advanced_board, renewed_board};
-ghost use Rattle.board.specs.Leaving.{requests_of, board_leaving, departed_board};
+ghost use Rattle.board.specs.Slots.{held};
+ghost use Rattle.board.specs.Boards.{with_slot, advanced_board, renewed_board};
+ghost use Rattle.board.specs.Leaving.{board_leaving, departed_board};
 ghost use Rattle.scheduler.specs.Hearing.{taken_by};
 
+use crate::scheduler::front::Front;
 use board::board::Board;
 use board::departures::Departures;
 use interface::{Controller, Request};
 
-// The controller takes an open request, which holds its slot.
-pub(crate) fn send<C: Controller>(controller: &mut C, board: &mut Board, request: Request)
-    ensures board { board_view board.new ≡ with_slot request.slot (Held request.bank request.kind) (board_view board.old) }
-    ensures controller { C.state controller.new ≡ after C.meaning (Call.take request) (C.state controller.old) }
-{
-    board.hold(request.slot as usize, request.bank, request.kind);
-    let _ = controller.take(request);
-}
+impl<C: Controller> Front<C> {
+    // The controller takes an open request, which holds its slot.
+    pub(crate) fn send(&mut self, request: Request)
+        ensures board { self.new.board ≡ with_slot request.slot (held request.bank request.kind) self.old.board }
+        ensures controller { C.state self.new.controller ≡ after C.meaning (Call.take request) (C.state self.old.controller) }
+    {
+        self.board.hold(request.slot as usize, request.access());
+        let _ = self.controller.take(request);
+    }
 
-// The controller takes the request of a vertex, which flies.
-fn depart<C: Controller>(controller: &mut C, board: &mut Board, leaving: Request)
-    ensures board { board_view board.new ≡ advanced_board Due leaving.slot (board_view board.old) }
-    ensures controller { C.state controller.new ≡ after C.meaning (Call.take leaving) (C.state controller.old) }
-{
-    board.depart(leaving.slot);
-    let _ = controller.take(leaving);
+    // The controller takes the request of a vertex, which flies.
+    fn depart(&mut self, leaving: Request)
+        ensures board { self.new.board ≡ advanced_board Due leaving.slot self.old.board }
+        ensures controller { C.state self.new.controller ≡ after C.meaning (Call.take leaving) (C.state self.old.controller) }
+    {
+        self.board.depart(leaving.slot);
+        let _ = self.controller.take(leaving);
+    }
+
+    // The controller takes the requests of all vertices that leave, in order.
+    pub(crate) fn depart_all(&mut self, requests: &[Request])
+        ensures board { self.new.board ≡ departed_board requests.now self.old.board }
+        ensures controller { C.state self.new.controller ≡ taken_by C.meaning requests.now (C.state self.old.controller) }
+    {
+        for request in requests {
+            self.depart(*request);
+        }
+    }
 }
 
 // Lanes whose vertices are all done begin their next round, and those who leave then are listed.
 pub(crate) fn prepare(board: &mut Board, departures: &mut Departures, tick: u64)
-    ensures board { board_view board.new ≡ renewed_board (board_view board.old) }
-    ensures list { requests_of departures.new ≡ board_leaving tick (renewed_board (board_view board.old)) }
+    ensures board { board.new ≡ renewed_board board.old }
+    ensures list { departures.new ≡ board_leaving tick (renewed_board board.old) }
 {
     board.renew();
     departures.fill(board, tick);
-}
-
-// The controller takes the requests of all vertices that leave, in order.
-pub(crate) fn depart_all<C: Controller>(controller: &mut C, board: &mut Board, requests: &[Request])
-    ensures board { board_view board.new ≡ departed_board requests.now (board_view board.old) }
-    ensures controller { C.state controller.new ≡ taken_by C.meaning requests.now (C.state controller.old) }
-{
-    for request in requests {
-        depart(controller, board, *request);
-    }
 }

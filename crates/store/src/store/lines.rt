@@ -1,91 +1,64 @@
 // The lines and notices of requests, and the requests that leave for them.
-ghost use Rattle.std.specs.Prelude.{◌≡◌};
-ghost use Rattle.model.specs.Ticks.{row_of, payload_notice};
+ghost use Rattle.std.specs.Prelude.{◌≡◌, [], ◌∷◌};
+ghost use Rattle.model.specs.Ticks.{row_of};
 ghost use Rattle.model.specs.declared.Letter.TheVariants.{T as taken_letter};
-ghost use Rattle.store.specs.Pages.{page, wrote, wrote_all};
-ghost use Rattle.store.specs.Stores.{store_view};
+ghost use Rattle.store.specs.Written.{Wrote};
 ghost use Rattle.store.specs.Lines.{line_with, flight_line, flight_notice, load_for, loaded, all_loaded, load_lines};
 
-use crate::page::write;
+use crate::page::Page;
 use crate::store::Store;
 use interface::Request;
 use model::{Letter, Line, Notice, Payload};
 
 impl Store {
-    // The line of a request in flight, if there is one; how many lines are written then.
+    // The line of a request in flight, if there is one.
     pub fn write_line(
         &self,
-        lines: &mut [Line],
-        count: usize,
+        lines: &mut Page<Line>,
         letter: Letter,
         tick: u64,
         flight: Option<Request>,
-    ) -> usize
-        ensures { page lines.new result ≡ wrote_all (flight_line letter tick (store_view self.now) flight) (page lines.old count) }
+    )
+        ensures { Wrote (flight_line letter tick self.now flight) lines.old lines.new }
     {
-        match flight {
-            Some(request) => {
-                let payload = self.payload(request.slot as usize);
-                write(lines, count, line(letter, tick, request, payload))
-            }
-            None => count,
+        if let Some(request) = flight {
+            let payload = self.payload(request.slot as usize);
+            lines.write(line(letter, tick, request, payload));
         }
     }
 
-    // The notice of a request in flight, unless it is a fake; how many notices are written then.
-    pub fn write_notice(
-        &self,
-        notices: &mut [Notice],
-        count: usize,
-        tick: u64,
-        flight: Option<Request>,
-    ) -> usize
-        ensures { page notices.new result ≡ wrote_all (flight_notice tick (store_view self.now) flight) (page notices.old count) }
+    // The notice of a request in flight, unless it is a fake.
+    pub fn write_notice(&self, notices: &mut Page<Notice>, tick: u64, flight: Option<Request>)
+        ensures { Wrote (flight_notice tick self.now flight) notices.old notices.new }
     {
-        match flight {
-            Some(request) => {
-                let payload = self.payload(request.slot as usize);
-                tell(notices, count, tick, request.domain, payload)
+        if let Some(request) = flight {
+            if let Some(real) = self.payload(request.slot as usize) {
+                notices.write(Notice {
+                    tick,
+                    domain: request.domain,
+                    serial: real.serial,
+                });
             }
-            None => count,
         }
     }
 
     // The oldest request that fits goes with each that leaves, else a fake, and its T line is written.
-    pub fn load(
-        &mut self,
-        tick: u64,
-        requests: &[Request],
-        lines: &mut [Line],
-        count: usize,
-    ) -> usize
-        ensures after { store_view self.new ≡ all_loaded requests.now (store_view self.old) }
-        ensures lines { page lines.new result ≡ wrote_all (load_lines tick requests.now (store_view self.old)) (page lines.old count) }
+    pub fn load(&mut self, tick: u64, requests: &[Request], lines: &mut Page<Line>)
+        ensures after { self.new ≡ all_loaded requests.now self.old }
+        ensures lines { Wrote (load_lines tick requests.now self.old) lines.old lines.new }
     {
-        let mut written = count;
         for request in requests {
-            written = self.load_one(tick, *request, lines, written);
+            self.load_one(tick, *request, lines);
         }
-        written
     }
 
-    fn load_one(&mut self, tick: u64, request: Request, lines: &mut [Line], count: usize) -> usize
-        ensures after { store_view self.new ≡ loaded request (store_view self.old) }
-        ensures lines { page lines.new result ≡ wrote (line_with taken_letter tick request (load_for request (store_view self.old))) (page lines.old count) }
+    fn load_one(&mut self, tick: u64, request: Request, lines: &mut Page<Line>)
+        ensures after { self.new ≡ loaded request self.old }
+        ensures lines { Wrote (line_with taken_letter tick request (load_for request self.old) ∷ []) lines.old lines.new }
     {
-        let payload = self.leave(request.domain as usize, request.bank, request.kind);
+        let payload = self.leave(request.domain as usize, request.access());
         self.carry(request.slot as usize, payload);
-        write(lines, count, line(Letter::T, tick, request, payload))
-    }
-}
-
-// A fake has row 0.
-fn row(payload: Payload) -> u16
-    ensures { result ≡ row_of payload }
-{
-    match payload {
-        Payload::Fake => 0,
-        Payload::Real(row, _) => row,
+        lines.write(line(Letter::T, tick, request, payload));
     }
 }
 
@@ -103,20 +76,9 @@ fn line(letter: Letter, tick: u64, request: Request, payload: Payload) -> Line
     }
 }
 
-// The notice of a real request.
-fn tell(notices: &mut [Notice], count: usize, tick: u64, domain: u8, payload: Payload) -> usize
-    ensures { page notices.new result ≡ wrote_all (payload_notice tick domain payload) (page notices.old count) }
+// A fake has row 0.
+fn row(payload: Payload) -> u16
+    ensures { result ≡ row_of payload }
 {
-    match payload {
-        Payload::Real(_, serial) => write(
-            notices,
-            count,
-            Notice {
-                tick,
-                domain,
-                serial,
-            },
-        ),
-        Payload::Fake => count,
-    }
+    payload.map_or(0, |real| real.row)
 }

@@ -1,11 +1,11 @@
-use Rattle.std.proofs.Common.{sym, ap}
-use Rattle.tokens.specs.Lexemes.{cursor}
-use Rattle.forms.specs.Signs.{uncons}
-use Rattle.forms.proofs.Scanning.{passed, on_fault}
+use Rattle.std.proofs.Common.{◌≡◌}
+use Rattle.std.specs.Option.{option_flatten}
+use Rattle.std.specs.Result.{result_ok}
+use Rattle.forms.proofs.Scanning.{passed}
 use Rattle.forms.proofs.signs.next.Goals as goal
 
-pub returns-in-Ok : goal.returns-in-Ok
-returns-in-Ok c = passed (cursor c.args.lexer.now) (cursor c.next.new.self) c.in-Ok.token c.in-Ok.ensures.answer c.next.ensures.after
-
-pub returns-in-Err : goal.returns-in-Err
-returns-in-Err c = sym (ap uncons (on_fault (cursor c.args.lexer.now) _ c.in-Err.ensures.answer).0)
+pub returns : goal.returns
+returns c =
+    let h = passed c.args.lexer.now c.next.new.self c.next.result c.next.ensures.answer c.next.ensures.after in
+    let e : c.flatten.result ≡ option_flatten (result_ok c.next.result) = cc in
+    rw e h

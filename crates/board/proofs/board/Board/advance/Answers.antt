@@ -1,24 +1,20 @@
-use Rattle.std.proofs.Common.{◌/◌, ◌%◌, List, length, sym, ap, ◌∙◌}
-use Rattle.model.specs.Settings.{Role, all_slots}
-use Rattle.patterns.specs.Lanes.{LaneView, advanced}
-use Rattle.board.specs.Sets.{settings_by, formed}
-use Rattle.board.specs.Boards.{board_view}
+use Rattle.std.proofs.Common.{◌/◌, ◌%◌, List, ap}
+use Rattle.patterns.specs.Lanes.{LaneView, advanced, changed}
+use Rattle.board.specs.contracts.board.Board.{the_view}
+use Rattle.board.proofs.Limits.{lanes_known, length_changed}
 use Rattle.board.proofs.Moves.{advanced_pattern, roles_changed, formed_changed}
 use Rattle.board.proofs.board.Board.advance.Goals as goal
 
 pub invariant_of-self : goal.invariant_of-self
 invariant_of-self c =
-    let b = c.args.self.now in
-    let v = board_view b in record {
-      eight = b.eight;
-      slot_room = b.slot_room;
-      counted = b.counted
-          ∙ ap (λ (rs : List Role). length (all_slots (record { first = b.first; roles = rs }))) (sym (roles_changed (advanced c.args.event (c.args.slot % 8)) (advanced_pattern c.args.event (c.args.slot % 8)) v.shares v.lanes (c.args.slot / 64) (c.args.slot / 8 % 8)))
-          ∙ ap (λ (t : List (List LaneView)). length (all_slots (settings_by b.first v.shares t))) (sym c.advance.ensures);
-      well_formed = ap formed c.advance.ensures ∙ formed_changed (advanced c.args.event (c.args.slot % 8)) (advanced_pattern c.args.event (c.args.slot % 8)) v.lanes (c.args.slot / 64) (c.args.slot / 8 % 8) ∙ b.well_formed;
-    }
+    let b = the_view c.self.inside in
+    let g = advanced c.args.event (c.args.slot % 8) in
+    let same = advanced_pattern c.args.event (c.args.slot % 8) in
+    let d = c.args.slot / 64 in
+    let i = c.args.slot / 8 % 8 in
+    (lanes_known b c.self.inside.used c.self.invariant.0 _ (length_changed (λ ls. changed g ls i) b.lanes d) (roles_changed g same b.shares b.lanes d i) (formed_changed g same b.lanes d i) _ c.advance.ensures, c.self.invariant.1)
 
 pub returns : goal.returns
 returns c =
-    let v = board_view c.args.self.now in
-    ap (λ (t : List (List LaneView)). record { first = v.first; shares = v.shares; lanes = t; slots = v.slots }) c.advance.ensures
+    let b = the_view c.self.inside in
+    rw (← c.self.view_is) (ap (λ (t : List (List LaneView)). record { first = b.first; shares = b.shares; lanes = t; slots = b.slots }) c.advance.ensures)

@@ -1,33 +1,29 @@
-use Rattle.std.proofs.Common.{refl, ◌∙◌}
+use Rattle.std.proofs.Common.{◌≡◌, Some, None, sym, ap, ◌∙◌, rules}
 use Rattle.model.specs.Calls.{first}
-use Rattle.patterns.specs.Tables.{table_view}
-use Rattle.board.specs.Sets.{settings_by, shares_view}
-use Rattle.board.specs.Boards.{board_view}
-use Rattle.board.proofs.Limits.{first_refused, refused_view, accepted_view}
-use Rattle.board.proofs.Totals.{roles_only}
+use Rattle.std.specs.Option.{option_map}
+use Rattle.patterns.specs.Ticks.{tick_number}
+use Rattle.board.specs.contracts.board.Board.{the_view}
+use Rattle.board.proofs.Limits.{first_refused, first_accepted, first_known, refused_view, accepted_view}
 use Rattle.board.proofs.board.Board.set_first.Goals as goal
 
-pub returns-in-Some : goal.returns-in-Some
-returns-in-Some c =
-    let b = board_view c.args.self.now in
-    record {
-      answer = λ places. c.in-Some.ensures ∙ first_refused b places c.args.number;
-      after = λ places. refused_view b places (first c.args.number) _ (c.in-Some.ensures ∙ first_refused b places c.args.number);
-    }
+pub returns-in_err-tick-clause-answer : goal.returns-in_err-tick-clause-answer
+returns-in_err-tick-clause-answer c = λ places. let none : None ≡ tick_number c.args.number = search rules in let e = first_refused c.args.self.now places c.args.number none in search (rules, e)
+
+pub returns-in_err-tick-clause-after : goal.returns-in_err-tick-clause-after
+returns-in_err-tick-clause-after c = λ places. let none : None ≡ tick_number c.args.number = search rules in refused_view c.args.self.now places (first c.args.number) _ (first_refused c.args.self.now places c.args.number none)
 
 pub invariant_of-self : goal.invariant_of-self
-invariant_of-self c =
-    let b = c.args.self.now in record {
-      eight = b.eight;
-      slot_room = b.slot_room;
-      counted = b.counted ∙ roles_only (settings_by b.first (shares_view b.shares.items) (table_view b.lanes)) (settings_by c.args.number (shares_view b.shares.items) (table_view b.lanes)) refl;
-      well_formed = b.well_formed;
-    }
+invariant_of-self c = (first_known (the_view c.self.inside) c.self.inside.used c.self.invariant.0 c.in_ok-tick.tick.number, c.self.invariant.1)
 
-pub returns : goal.returns
-returns c =
-    let b = board_view c.args.self.now in
-    record {
-      answer = λ places. c.in_default.ensures ∙ first_refused b places c.args.number;
-      after = λ places. accepted_view b _ places (first c.args.number) (c.in_default.ensures ∙ first_refused b places c.args.number) refl;
-    }
+pub returns-clause-answer : goal.returns-clause-answer
+returns-clause-answer c = λ places.
+    let some : Some c.in_ok-tick.tick.number ≡ tick_number c.args.number = ap (option_map (λ t. t.number)) (sym c.in_ok-tick.ensures.ok_part) ∙ c.new.ensures in
+    (first_accepted c.args.self.now places c.args.number c.in_ok-tick.tick.number some).0
+
+pub returns-clause-after : goal.returns-clause-after
+returns-clause-after c =
+    let b = the_view c.self.inside in
+    rw (← c.self.view_is) (λ places.
+    let some : Some c.in_ok-tick.tick.number ≡ tick_number c.args.number = ap (option_map (λ t. t.number)) (sym c.in_ok-tick.ensures.ok_part) ∙ c.new.ensures in
+    let e = first_accepted b places c.args.number c.in_ok-tick.tick.number some in
+    accepted_view b _ places (first c.args.number) e.0 (ap (λ n. record { first = n; shares = b.shares; lanes = b.lanes; slots = b.slots }) e.1))

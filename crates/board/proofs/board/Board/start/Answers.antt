@@ -1,25 +1,16 @@
-use Rattle.std.proofs.Common.{List, length, sym, refl, ap, ◌∙◌}
-use Rattle.model.specs.Settings.{Role, all_slots}
+use Rattle.std.proofs.Common.{List, map, refl, ap}
+use lib.ListN.{length-map}
 use Rattle.patterns.specs.Lanes.{LaneView, started}
-use Rattle.board.specs.Sets.{settings_by, formed}
-use Rattle.board.specs.Boards.{board_view}
-use Rattle.board.proofs.Limits.{roles_map, formed_map}
+use Rattle.board.specs.contracts.board.Board.{the_view}
+use Rattle.board.proofs.Limits.{roles_map, formed_map, lanes_known}
 use Rattle.board.proofs.board.Board.start.Goals as goal
 
 pub invariant_of-self : goal.invariant_of-self
 invariant_of-self c =
-    let b = c.args.self.now in
-    let v = board_view b in
-    let g = started b.first in record {
-      eight = b.eight;
-      slot_room = b.slot_room;
-      counted = b.counted
-          ∙ ap (λ (rs : List Role). length (all_slots (record { first = b.first; roles = rs }))) (sym (roles_map g (λ l. refl) v.shares v.lanes))
-          ∙ ap (λ (t : List (List LaneView)). length (all_slots (settings_by b.first v.shares t))) (sym c.start_at.ensures);
-      well_formed = ap formed c.start_at.ensures ∙ formed_map g (λ l. refl) v.lanes ∙ b.well_formed;
-    }
+    let b = the_view c.self.inside in
+    (lanes_known b c.self.inside.used c.self.invariant.0 _ (length-map b.lanes (map (started b.first))) (roles_map (started b.first) (λ l. refl) b.shares b.lanes) (formed_map (started b.first) (λ l. refl) b.lanes) _ c.start_at.ensures, c.self.invariant.1)
 
 pub returns : goal.returns
 returns c =
-    let v = board_view c.args.self.now in
-    ap (λ (t : List (List LaneView)). record { first = v.first; shares = v.shares; lanes = t; slots = v.slots }) c.start_at.ensures
+    let b = the_view c.self.inside in
+    rw (← c.self.view_is) (ap (λ (t : List (List LaneView)). record { first = b.first; shares = b.shares; lanes = t; slots = b.slots }) c.start_at.ensures)

@@ -1,9 +1,8 @@
-use Rattle.std.proofs.Common.{◌≡◌, [], drop, vec_items}
-use Rattle.board.specs.Boards.{board_view}
+use Rattle.std.proofs.Common.{◌≡◌, [], drop}
 use Rattle.board.specs.Leaving.{domains_leaving, all_added, board_leaving}
 use Rattle.board.proofs.departures.Departures.fill.Given as goal
 
 abbrev pub invariant-loop-domain : goal.invariant-loop-domain
 invariant-loop-domain l =
-    let b = board_view l.board in
-    all_added (domains_leaving l.tick l.domain (drop l.domain b.shares) (drop l.domain b.lanes)) (vec_items l.self.list) ≡ all_added (board_leaving l.tick b) []
+    let b = l.board in
+    all_added (domains_leaving l.tick l.domain (drop l.domain b.shares) (drop l.domain b.lanes)) l.self ≡ all_added (board_leaving l.tick b) []

@@ -3,13 +3,14 @@ use Rattle.std.proofs.lemmas.Result.{err_from_is_err_and}
 use Rattle.interface.specs.Meaning.{Call, accepted, refused, number}
 use Rattle.interface.proofs.Codes.{after_is, step_is}
 use Rattle.held.specs.Rows.{busy, passed}
-use Rattle.first_come.specs.State.{view, issue, elapsed, state_codes, state_of, state_back, state_meaning}
+use Rattle.first_come.specs.State.{State, issue, elapsed, state_codes, state_of, state_back, state_meaning}
 use Rattle.first_come.proofs.States.{with_rows, state_path}
 use Rattle.first_come.proofs.controller.FirstComeController.step.Goals as goal
 
 pub returns-in_err-step : goal.returns-in_err-step
 returns-in_err-step c =
-    let s = view c.args.self.now in
+    rw (← c.self.view_is) (
+    let s : State = record { rows = c.self.inside.table; gaps = c.self.inside.gaps } in
     let p = err_from_is_err_and c.from_residual.result c.from_residual.ensures.1 in
     let busy_now : busy s.rows ≡ Some (number c.in_err-step.field-0.0) = sym c.in_err-step.ensures.answer in
     record {
@@ -17,11 +18,12 @@ returns-in_err-step c =
       after = after_is state_codes state_of state_back state_meaning Call.step s _
           (ap (with_rows s) (c.step.ensures.after ∙ ap (λ o. accepted o (passed s.rows) s.rows) busy_now)
           ∙ ap (λ o. accepted o (issue (elapsed s)) s) (sym busy_now));
-    }
+    })
 
 pub returns : goal.returns
 returns c =
-    let s = view c.args.self.now in
+    rw (← c.self.view_is) (
+    let s : State = record { rows = c.self.inside.table; gaps = c.self.inside.gaps } in
     let free : busy s.rows ≡ None = sym c.in_ok-step.ensures.answer in
     record {
       answer = step_is state_codes state_of state_back state_meaning s _ free;
@@ -29,4 +31,4 @@ returns c =
           (c.issue.ensures
           ∙ ap issue (state_path _ (elapsed s) (c.step.ensures.after ∙ ap (λ o. accepted o (passed s.rows) s.rows) free) c.pass.ensures)
           ∙ ap (λ o. accepted o (issue (elapsed s)) s) (sym free));
-    }
+    })

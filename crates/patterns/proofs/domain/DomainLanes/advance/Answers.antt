@@ -1,14 +1,12 @@
-use Rattle.std.proofs.Common.{arith}
-use Rattle.patterns.specs.Lanes.{lane_view, advanced}
-use Rattle.patterns.proofs.Places.{viewed, view_past}
+use Rattle.std.proofs.Common.{ap, ◌∙◌, rules}
+use Rattle.patterns.specs.Lanes.{advanced}
+use Rattle.patterns.specs.contracts.domain.DomainLanes.{the_view}
+use Rattle.patterns.proofs.Places.{placed, changed_past}
 use Rattle.patterns.proofs.domain.DomainLanes.advance.Goals as goal
+use Rattle.patterns.proofs.domain.DomainLanes.advance.Goals.{in-Some, in_default}
 
-pub returns-then-number-len : goal.returns-then-number-len
-returns-then-number-len c =
-    let v = c.args.self.now.lanes in
-    viewed lane_view (advanced c.args.event c.args.vertex) v.items c.args.number _ c.advance.new.self (omega (arith, v.ok.0, c.len.ensures, c.if-number-len.true)) c.index_mut-lane.ensures.value c.advance.ensures
-
-pub returns-else-number-len : goal.returns-else-number-len
-returns-else-number-len c =
-    let v = c.args.self.now.lanes in
-    view_past lane_view (advanced c.args.event c.args.vertex) v.items c.args.number (omega (arith, v.ok.0, c.len.ensures, c.if-number-len.false))
+pub returns : goal.returns
+returns c = rw (← c.self.view_is) (elim c.match-get_mut.branch [
+  | in-Some w ↦ ap the_view w.self-inside-is ∙ placed (advanced c.args.event c.args.vertex) c.self.inside.lanes.items c.args.number _ _ w.in-Some.ensures.value w.advance.ensures
+  | in_default w ↦ ap the_view w.self-inside-is ∙ changed_past (advanced c.args.event c.args.vertex) c.self.inside.lanes.items c.args.number (search rules)
+])

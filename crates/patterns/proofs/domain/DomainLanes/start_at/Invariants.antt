@@ -1,7 +1,6 @@
 use Rattle.std.proofs.Common.{◌≡◌, ◌++◌, map, take, drop}
 use Rattle.patterns.specs.Lanes.{started}
-use Rattle.patterns.specs.Tables.{lanes_view}
 use Rattle.patterns.proofs.domain.DomainLanes.start_at.Given as goal
 
-abbrev pub invariant-loop-number : goal.invariant-loop-number
-invariant-loop-number l = lanes_view l.self ≡ map (started l.tick) (take l.number (lanes_view l.initial.self)) ++ drop l.number (lanes_view l.initial.self)
+abbrev pub invariant-loop-lane : goal.invariant-loop-lane
+invariant-loop-lane l = l.lane-items ≡ map (started l.tick) (take l.lane-index l.fn.self) ++ drop l.lane-index l.fn.self

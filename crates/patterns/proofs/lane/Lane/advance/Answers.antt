@@ -1,15 +1,16 @@
-use Rattle.std.proofs.Common.{arith}
+use Rattle.std.proofs.Common.{ap, ◌∙◌, rules}
 use Rattle.patterns.specs.Moves.{moved}
+use Rattle.patterns.specs.contracts.lane.Lane.{the_view}
 use Rattle.patterns.proofs.Places.{placed, changed_past}
 use Rattle.patterns.proofs.lane.Lane.advance.Goals as goal
+use Rattle.patterns.proofs.lane.Lane.advance.Goals.{in-Some, in_default}
 
-pub returns-then-vertex-len : goal.returns-then-vertex-len
-returns-then-vertex-len c =
-    let vs = placed (moved c.args.event) c.args.self.now.vertices.items c.args.vertex _ _ c.index_mut.ensures.value c.advance.ensures in
-    cc vs
-
-pub returns-else-vertex-len : goal.returns-else-vertex-len
-returns-else-vertex-len c =
-    let v = c.args.self.now.vertices in
-    let kept = changed_past (moved c.args.event) v.items c.args.vertex (omega (arith, v.ok.0, c.len.ensures, c.if-vertex-len.false)) in
-    cc kept
+pub returns : goal.returns
+returns c = rw (← c.self.view_is) (elim c.match-get_mut.branch [
+  | in-Some w ↦
+      let vs = placed (moved c.args.event) c.self.inside.vertices.items c.args.vertex _ _ w.in-Some.ensures.value w.advance.ensures in
+      ap the_view w.self-inside-is ∙ cc vs
+  | in_default w ↦
+      let kept = changed_past (moved c.args.event) c.self.inside.vertices.items c.args.vertex (search rules) in
+      ap the_view w.self-inside-is ∙ cc kept
+])

@@ -1,27 +1,14 @@
-use Rattle.std.proofs.Common.{◌<◌, ◌≤◌, [], length, arith}
-use lib.ListN.{length-map}
-use Rattle.patterns.specs.Shape.{refused}
-use Rattle.patterns.specs.Tables.{lanes_view, table_view, with_lane}
-use Rattle.patterns.proofs.Places.{viewed, view_past, get_or_viewed}
-use Rattle.patterns.proofs.Checks.{no_domain, in_domain}
+use Rattle.std.proofs.Common.{ap, ◌∙◌, rules}
+use Rattle.patterns.specs.Tables.{with_lane}
+use Rattle.patterns.specs.contracts.table.LaneTable.{the_view}
+use Rattle.patterns.proofs.Places.{placed, changed_past}
 use Rattle.patterns.proofs.table.LaneTable.add.Goals as goal
+use Rattle.patterns.proofs.table.LaneTable.add.Goals.{in-Some, in-None}
 
-pub returns-then-domain-len : goal.returns-then-domain-len
-returns-then-domain-len c =
-    let v = c.args.self.now.domains in
-    let past : length v.items ≤ c.args.domain = omega (arith, v.ok.0, c.len.ensures, c.if-domain-len.true) in
-    record {
-      answer = no_domain (table_view c.args.self.now) c.args.domain c.args.free c.args.vertices.now c.args.edges.now c.args.rest (omega (arith, past, length-map v.items lanes_view));
-      after = view_past lanes_view (with_lane c.args.free c.args.vertices.now c.args.edges.now c.args.rest) v.items c.args.domain past;
-    }
-
-pub returns : goal.returns
-returns c =
-    let v = c.args.self.now.domains in
-    let lt : c.args.domain < length v.items = omega (arith, v.ok.0, c.len.ensures, c.if-domain-len.false) in
-    record {
-      answer =
-          in_domain (table_view c.args.self.now) c.args.domain c.args.free c.args.vertices.now c.args.edges.now c.args.rest _ (refused c.add.result) (omega (arith, lt, length-map v.items lanes_view))
-          (get_or_viewed lanes_view (λ x. x) v.items c.args.domain [] _ lt c.index_mut.ensures.value) c.add.ensures.answer;
-      after = viewed lanes_view (with_lane c.args.free c.args.vertices.now c.args.edges.now c.args.rest) v.items c.args.domain _ c.add.new.self lt c.index_mut.ensures.value c.add.ensures.after;
-    }
+pub returns-clause-after : goal.returns-clause-after
+returns-clause-after c =
+    let move = with_lane c.args.free c.args.lane.vertices.now c.args.lane.edges.now c.args.lane.rest in
+    rw (← c.self.view_is) (elim c.match-get_mut.branch [
+      | in-Some w ↦ ap the_view w.self-inside-is ∙ placed move c.self.inside.domains.items c.args.domain _ _ w.in-Some.ensures.value w.add.ensures.after
+      | in-None w ↦ ap the_view w.self-inside-is ∙ changed_past move c.self.inside.domains.items c.args.domain (search rules)
+    ])

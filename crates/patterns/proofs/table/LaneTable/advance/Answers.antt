@@ -1,17 +1,14 @@
-use Rattle.std.proofs.Common.{List, arith}
+use Rattle.std.proofs.Common.{List, ap, ◌∙◌, rules}
 use Rattle.patterns.specs.Lanes.{LaneView, advanced, changed}
-use Rattle.patterns.specs.Tables.{lanes_view}
-use Rattle.patterns.proofs.Places.{viewed, view_past}
+use Rattle.patterns.specs.contracts.table.LaneTable.{the_view}
+use Rattle.patterns.proofs.Places.{placed, changed_past}
 use Rattle.patterns.proofs.table.LaneTable.advance.Goals as goal
+use Rattle.patterns.proofs.table.LaneTable.advance.Goals.{in-Some, in_default}
 
-pub returns-then-domain-len : goal.returns-then-domain-len
-returns-then-domain-len c =
-    let v = c.args.self.now.domains in
+pub returns : goal.returns
+returns c =
     let move : List LaneView → List LaneView = λ ls. changed (advanced c.args.event c.args.vertex) ls c.args.number in
-    viewed lanes_view move v.items c.args.domain _ c.advance.new.self (omega (arith, v.ok.0, c.len.ensures, c.if-domain-len.true)) c.index_mut.ensures.value c.advance.ensures
-
-pub returns-else-domain-len : goal.returns-else-domain-len
-returns-else-domain-len c =
-    let v = c.args.self.now.domains in
-    let move : List LaneView → List LaneView = λ ls. changed (advanced c.args.event c.args.vertex) ls c.args.number in
-    view_past lanes_view move v.items c.args.domain (omega (arith, v.ok.0, c.len.ensures, c.if-domain-len.false))
+    rw (← c.self.view_is) (elim c.match-get_mut.branch [
+      | in-Some w ↦ ap the_view w.self-inside-is ∙ placed move c.self.inside.domains.items c.args.domain _ _ w.in-Some.ensures.value w.advance.ensures
+      | in_default w ↦ ap the_view w.self-inside-is ∙ changed_past move c.self.inside.domains.items c.args.domain (search rules)
+    ])

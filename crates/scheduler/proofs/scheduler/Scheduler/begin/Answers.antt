@@ -1,28 +1,27 @@
-use Rattle.board.specs.Boards.{board_view, settings_of}
-use Rattle.store.specs.Stores.{store_view}
-use Rattle.scheduler.specs.Views.{running_of}
+use Rattle.std.proofs.Common.{◌≡◌, false, ap, ◌∙◌, rules}
+use Rattle.board.specs.Boards.{settings_of}
+use Rattle.scheduler.specs.Schedulers.{Standing, has_begun, next_number, running_at}
 use Rattle.scheduler.proofs.Begins.{begin_after, begin_reply}
-use Rattle.scheduler.proofs.Outcomes.{again_after, again_reply}
+use Rattle.scheduler.proofs.Outcomes.{unbegun, again_after, again_reply}
 use Rattle.scheduler.proofs.scheduler.Scheduler.begin.Goals as goal
 
-pub returns-then-self : goal.returns-then-self
-returns-then-self g c =
+pub returns-in_err-check_setting : goal.returns-in_err-check_setting
+returns-in_err-check_setting g c =
     let m = g.C.Controller in
     let s = c.args.self.now in
-    let b = board_view s.board in
-    let x = running_of s.tick (m.state s.controller) b (store_view s.store) in
+    let answer = again_reply m.meaning (has_begun s) (settings_of s.board) (running_at s) _ c.in_err-check_setting.ensures in
     record {
-      answer = again_reply m.meaning s.begun (settings_of b) x c.if-self.true;
-      after = again_after m.meaning s.begun (settings_of b) x c.if-self.true;
+      answer = search (rules, answer);
+      after = again_after m.meaning (has_begun s) (settings_of s.board) (running_at s) _ c.in_err-check_setting.ensures;
     }
 
 pub returns : goal.returns
 returns g c =
     let m = g.C.Controller in
-    let s = c.args.self.now in
-    let b = board_view s.board in
-    let x = running_of s.tick (m.state s.controller) b (store_view s.store) in
-    record {
-      answer = begin_reply m.meaning s.begun (settings_of b) x c.if-self.false;
-      after = begin_after m.meaning s.begun s.tick c.start-self.result (m.state s.controller) b (board_view c.start-self.new.board) (store_view s.store) c.if-self.false c.start-self.ensures.after c.start-self.ensures.value s.fresh;
-    }
+    let o = c.self.inside in
+    let s : Standing = record { next = o.tick; controller = m.state o.front.controller; board = o.front.board; store = o.store } in
+    let no : has_begun s ≡ false = ap has_begun c.self.view_is ∙ unbegun (has_begun c.args.self.now) c.in_ok-check_setting.ensures in
+    rw (← c.self.view_is) (record {
+      answer = begin_reply m.meaning (has_begun s) (settings_of s.board) (running_at s) no;
+      after = begin_after m.meaning (has_begun s) (next_number s) c.start.result s.controller s.board c.start.new.board s.store no c.start.ensures.after c.start.ensures.value c.self.invariant;
+    })

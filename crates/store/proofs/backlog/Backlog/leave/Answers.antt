@@ -1,20 +1,19 @@
-use Rattle.std.proofs.Common.{◌≡◌, List, ap, ◌∙◌, arith}
+use Rattle.std.proofs.Common.{List, ap, ◌∙◌, rules}
 use Rattle.model.specs.declared.Waiting.{Waiting}
-use Rattle.model.specs.declared.Payload.TheVariants.{Real}
-use Rattle.store.specs.Stores.{place_of}
+use Rattle.model.specs.Payloads.{real}
 use Rattle.store.proofs.Oldest.{found, missing}
 use Rattle.store.proofs.backlog.Backlog.leave.Goals as goal
 
-pub returns-then-place-len : goal.returns-then-place-len
-returns-then-place-len c =
-    let v = c.args.self.now.queue in
-    let at : c.first_match-place.result ≡ place_of c.args.bank c.args.kind v.items = c.first_match-place.ensures ∙ ap (place_of c.args.bank c.args.kind) c.as_slice.ensures.value in
-    let h = missing c.args.bank c.args.kind v.items (omega (arith, at, v.ok.0, c.len.ensures, c.if-place-len.true)) in
-    record { value = h.0; after = ap (λ (l : List Waiting). record { queue = l; serial = c.args.self.now.serial }) h.1 }
+pub returns-in_err-place : goal.returns-in_err-place
+returns-in_err-place c =
+    let h = missing c.args.access.bank c.args.access.kind c.self.inside.queue.items (search rules) in
+    rw (← c.self.view_is) (record { value = c.from_residual.ensures ∙ h.0; after = ap (λ (l : List Waiting). record { queue = l; serial = c.self.inside.serial }) h.1 })
 
 pub returns : goal.returns
 returns c =
-    let v = c.args.self.now.queue in
-    let at : c.first_match-place.result ≡ place_of c.args.bank c.args.kind v.items = c.first_match-place.ensures ∙ ap (place_of c.args.bank c.args.kind) c.as_slice.ensures.value in
-    let h = found c.args.bank c.args.kind v.items c.first_match-place.result at (omega (arith, v.ok.0, c.len.ensures, c.if-place-len.false)) c.remove-request.result in
-    record { value = ap (λ (w : Waiting). Real w.row w.serial) c.remove-request.ensures.value ∙ h.0; after = ap (λ (l : List Waiting). record { queue = l; serial = c.args.self.now.serial }) (c.remove-request.ensures.items ∙ h.1) }
+    let h = found c.args.access.bank c.args.access.kind c.self.inside.queue.items c.in_ok-place.place (search rules) c.remove-request.result in
+    rw (← c.self.view_is) (
+    record {
+      value = ap (λ (w : Waiting). real w.row w.serial) c.remove-request.ensures.value ∙ h.0;
+      after = ap (λ (l : List Waiting). record { queue = l; serial = c.self.inside.serial }) (c.remove-request.ensures.items ∙ h.1);
+    })

@@ -1,24 +1,19 @@
-use Rattle.std.proofs.Common.{◌≤◌, List, length, ap, ◌∙◌, arith}
-use Rattle.patterns.proofs.Places.{viewed, view_past}
-use Rattle.store.specs.Stores.{BacklogView, backlog_view, store_view, backlog_at, counted, numbered}
-use Rattle.store.proofs.Room.{numbered_with_serial, same_change}
+use Rattle.std.proofs.Common.{◌≤◌, length, ◌∙◌, rules}
+use Rattle.store.specs.Stores.{StoreView, backlog_at, counted, numbered}
+use Rattle.store.proofs.Room.{numbered_with_serial, same_change, that_domain, no_such_domain}
 use Rattle.store.proofs.store.Store.count.Goals as goal
+use Rattle.store.proofs.store.Store.count.Goals.{in-Some, in_default}
 
-pub returns-then-domain-len : goal.returns-then-domain-len
-returns-then-domain-len c =
-    let v = c.args.self.now.backlogs in
-    let s = store_view c.args.self.now in
-    let after =
-    ap (λ (l : List BacklogView). record { backlogs = l; payloads = c.args.self.now.payloads.items })
-    (viewed backlog_view numbered v.items c.args.domain _ c.count.new.self (omega (arith, v.ok.0, c.len.ensures, c.if-domain-len.true)) c.index_mut-chosen.ensures.value c.count.ensures.after) in
-    record { after = after; with_serial = λ serial. after ∙ same_change numbered counted c.args.domain s (numbered_with_serial (backlog_at s c.args.domain) serial) }
-
-pub returns-else-domain-len : goal.returns-else-domain-len
-returns-else-domain-len c =
-    let v = c.args.self.now.backlogs in
-    let s = store_view c.args.self.now in
-    let past : length v.items ≤ c.args.domain = omega (arith, v.ok.0, c.len.ensures, c.if-domain-len.false) in
-    record {
-      after = ap (λ (l : List BacklogView). record { backlogs = l; payloads = s.payloads }) (view_past backlog_view numbered v.items c.args.domain past);
-      with_serial = λ serial. ap (λ (l : List BacklogView). record { backlogs = l; payloads = s.payloads }) (view_past backlog_view counted v.items c.args.domain past);
-    }
+pub returns : goal.returns
+returns c =
+    let d = c.args.domain in
+    rw (← c.self.view_is) (
+    let s : StoreView = record { backlogs = c.self.inside.backlogs.items; payloads = c.self.inside.payloads.items } in
+    elim c.match-get_mut.branch [
+      | in-Some w ↦
+          let after = that_domain numbered s d w.in-Some.backlog.now w.count.new.self (search rules) w.count.ensures.after in
+          rw w.self-inside-is (record { after = after; with_serial = λ serial. after ∙ same_change numbered counted d s (numbered_with_serial (backlog_at s d) serial) })
+      | in_default w ↦
+          let past : length s.backlogs ≤ d = search rules in
+          rw w.self-inside-is (record { after = no_such_domain numbered s d past; with_serial = λ serial. no_such_domain counted s d past })
+    ])

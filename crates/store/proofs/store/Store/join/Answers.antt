@@ -1,24 +1,22 @@
-use Rattle.std.proofs.Common.{◌≤◌, List, length, ap, ◌∙◌, arith}
-use Rattle.patterns.proofs.Places.{viewed, view_past}
-use Rattle.store.specs.Stores.{BacklogView, backlog_view, store_view, backlog_at, queued, joined}
-use Rattle.store.proofs.Room.{joined_with_room, same_change}
+use Rattle.std.proofs.Common.{◌≤◌, length, ◌∙◌, rules}
+use Rattle.store.specs.Stores.{StoreView, BacklogView, backlog_at, queued, joined}
+use Rattle.store.proofs.Room.{joined_with_room, same_change, that_domain, no_such_domain}
 use Rattle.store.proofs.store.Store.join.Goals as goal
+use Rattle.store.proofs.store.Store.join.Goals.{in-Some, in_default}
 
-pub returns-then-domain-len : goal.returns-then-domain-len
-returns-then-domain-len c =
-    let v = c.args.self.now.backlogs in
-    let s = store_view c.args.self.now in
-    let after =
-    ap (λ (l : List BacklogView). record { backlogs = l; payloads = c.args.self.now.payloads.items })
-    (viewed backlog_view (joined c.args.bank c.args.kind c.args.row) v.items c.args.domain _ c.join.new.self (omega (arith, v.ok.0, c.len.ensures, c.if-domain-len.true)) c.index_mut-chosen.ensures.value c.join.ensures.after) in
-    record { after = after; with_room = λ room serial. after ∙ same_change (joined c.args.bank c.args.kind c.args.row) (queued c.args.bank c.args.kind c.args.row) c.args.domain s (joined_with_room c.args.bank c.args.kind c.args.row (backlog_at s c.args.domain) room serial) }
-
-pub returns-else-domain-len : goal.returns-else-domain-len
-returns-else-domain-len c =
-    let v = c.args.self.now.backlogs in
-    let s = store_view c.args.self.now in
-    let past : length v.items ≤ c.args.domain = omega (arith, v.ok.0, c.len.ensures, c.if-domain-len.false) in
-    record {
-      after = ap (λ (l : List BacklogView). record { backlogs = l; payloads = s.payloads }) (view_past backlog_view (joined c.args.bank c.args.kind c.args.row) v.items c.args.domain past);
-      with_room = λ room serial. ap (λ (l : List BacklogView). record { backlogs = l; payloads = s.payloads }) (view_past backlog_view (queued c.args.bank c.args.kind c.args.row) v.items c.args.domain past);
-    }
+pub returns : goal.returns
+returns c =
+    let a = c.args.access in
+    let d = c.args.domain in
+    let enters : BacklogView → BacklogView = joined a.bank a.kind c.args.row in
+    let waits : BacklogView → BacklogView = queued a.bank a.kind c.args.row in
+    rw (← c.self.view_is) (
+    let s : StoreView = record { backlogs = c.self.inside.backlogs.items; payloads = c.self.inside.payloads.items } in
+    elim c.match-get_mut.branch [
+      | in-Some w ↦
+          let after = that_domain enters s d w.in-Some.backlog.now w.join.new.self (search rules) w.join.ensures.after in
+          rw w.self-inside-is (record { after = after; with_room = λ room serial. after ∙ same_change enters waits d s (joined_with_room a.bank a.kind c.args.row (backlog_at s d) room serial) })
+      | in_default w ↦
+          let past : length s.backlogs ≤ d = search rules in
+          rw w.self-inside-is (record { after = no_such_domain enters s d past; with_room = λ room serial. no_such_domain waits s d past })
+    ])

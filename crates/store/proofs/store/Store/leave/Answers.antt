@@ -1,24 +1,30 @@
-use Rattle.std.proofs.Common.{List, ap, ◌∙◌, arith}
+use Rattle.std.proofs.Common.{◌≤◌, length, sym, ap, ◌∙◌, rules}
+use Rattle.std.proofs.lemmas.List.{get_or_past}
 use Rattle.model.specs.Ticks.{oldest}
-use Rattle.patterns.proofs.Places.{viewed, view_past, get_or_viewed, get_or_view_past}
-use Rattle.store.specs.Stores.{BacklogView, backlog_view, no_backlog, unqueued}
+use Rattle.store.specs.Stores.{StoreView, BacklogView, no_backlog, unqueued}
+use Rattle.store.proofs.Room.{that_domain, no_such_domain}
 use Rattle.store.proofs.store.Store.leave.Goals as goal
 
-pub returns-then-domain-len : goal.returns-then-domain-len
-returns-then-domain-len c =
-    let v = c.args.self.now.backlogs in
-    record {
-      value = c.leave.ensures.value ∙ ap (λ (x : BacklogView). oldest c.args.bank c.args.kind x.queue) (get_or_viewed backlog_view (λ x. x) v.items c.args.domain no_backlog _ (omega (arith, v.ok.0, c.len.ensures, c.if-domain-len.true)) c.index_mut-chosen.ensures.value);
-      after = ap (λ (l : List BacklogView). record { backlogs = l; payloads = c.args.self.now.payloads.items })
-          (viewed backlog_view (unqueued c.args.bank c.args.kind) v.items c.args.domain _ c.leave.new.self (omega (arith, v.ok.0, c.len.ensures, c.if-domain-len.true)) c.index_mut-chosen.ensures.value c.leave.ensures.after);
-    }
-
-pub returns-else-domain-len : goal.returns-else-domain-len
+pub returns-in_err-get_mut : goal.returns-in_err-get_mut
 unfolding oldest
-returns-else-domain-len c =
-    let v = c.args.self.now.backlogs in
+returns-in_err-get_mut c =
+    let a = c.args.access in
+    let d = c.args.domain in
+    rw (← c.self.view_is) (
+    let s : StoreView = record { backlogs = c.self.inside.backlogs.items; payloads = c.self.inside.payloads.items } in
+    let past : length s.backlogs ≤ d = search rules in
     record {
-      value = ap (λ (x : BacklogView). oldest c.args.bank c.args.kind x.queue) (get_or_view_past backlog_view (λ x. x) v.items c.args.domain no_backlog (omega (arith, v.ok.0, c.len.ensures, c.if-domain-len.false)));
-      after = ap (λ (l : List BacklogView). record { backlogs = l; payloads = c.args.self.now.payloads.items })
-          (view_past backlog_view (unqueued c.args.bank c.args.kind) v.items c.args.domain (omega (arith, v.ok.0, c.len.ensures, c.if-domain-len.false)));
-    }
+      value = c.from_residual.ensures ∙ ap (λ (x : BacklogView). oldest a.bank a.kind x.queue) (sym (get_or_past s.backlogs d no_backlog past));
+      after = no_such_domain (unqueued a.bank a.kind) s d past;
+    })
+
+pub returns : goal.returns
+returns c =
+    let a = c.args.access in
+    let d = c.args.domain in
+    rw (← c.self.view_is) (
+    let s : StoreView = record { backlogs = c.self.inside.backlogs.items; payloads = c.self.inside.payloads.items } in
+    record {
+      value = search rules;
+      after = that_domain (unqueued a.bank a.kind) s d c.in_ok-get_mut.field-0.now c.leave.new.self (search rules) c.leave.ensures.after;
+    })

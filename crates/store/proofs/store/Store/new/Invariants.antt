@@ -1,9 +1,6 @@
-use Rattle.std.proofs.Common.{◌≡◌, ◌-◌, ◌≤◌, map, replicate, vec_items, vec_len, vec_capacity}
-use Rattle.store.specs.Stores.{backlog_view, no_backlog}
+use Rattle.std.proofs.Common.{◌≡◌, ◌≤◌, replicate, vec_items, vec_len, vec_capacity}
+use Rattle.store.specs.Stores.{no_backlog}
 use Rattle.store.proofs.store.Store.new.Given as goal
 
-abbrev pub invariant-loop-heap : goal.invariant-loop-heap
-invariant-loop-heap l = (vec_len l.backlogs ≤ 8) × (8 ≤ vec_capacity l.backlogs) × (map backlog_view (vec_items l.backlogs) ≡ replicate (vec_len l.backlogs) no_backlog)
-
-abbrev pub decreases-loop-heap : goal.decreases-loop-heap
-decreases-loop-heap l = 8 - vec_len l.backlogs
+abbrev pub invariant-loop : goal.invariant-loop
+invariant-loop l = (vec_len l.backlogs ≡ l.counter) × (8 ≤ vec_capacity l.backlogs) × (vec_items l.backlogs ≡ replicate l.counter no_backlog)

@@ -1,0 +1,62 @@
+-- What a holder holds, and what its calls do.
+use Rattle.std.specs.Prelude.{◌≡◌, ℕ, Bool, min, cond, not, List, [], ◌∷◌, ◌++◌, map, length, set, None, Option, nat_le, nat_lt}
+use Rattle.std.specs.Fn.{Shared}
+use Rattle.interface.specs.Meaning.{any, first, rest, check, in_range}
+use Rattle.interface.specs.Slots.{has_in, dropped, dropped_by, dones_of}
+use Rattle.interface.specs.declared.Request.{Request}
+use Rattle.interface.specs.declared.Event.{Event}
+
+-- entries of type X in the order of taking, and the events that are ready in the order in which they are collected
+pub record Holding (X : Type 0) : Type 0 where
+  pub entries : List X
+  pub events : List Event
+
+abbrev pub nothing : {X : Type 0} → Holding X
+nothing = record { entries = []; events = [] }
+
+abbrev pub slot_by : {X : Type 0} → (X → Request) → X → ℕ
+slot_by request x = (request x).slot
+
+-- the refusal of an entry, where there are so many places: a holder has at most 32
+abbrev pub admission : {X : Type 0} → (X → Request) → ℕ → Holding X → X → Option ℕ
+admission request places h x =
+    check (not (in_range (request x))) 17
+    (check (any (has_in (slot_by request) (slot_by request x)) h.entries) 18
+    (check (nat_le (min places 32) (length h.entries)) 19 None))
+
+-- the entry is held last
+abbrev pub admitted : {X : Type 0} → Holding X → X → Holding X
+admitted h x = record { entries = h.entries ++ (x ∷ []); events = h.events }
+
+-- an event is added while there is room: a step makes at most an Issue and a Done of each held request ready
+abbrev pub added : Event → List Event → List Event
+added e out = cond (nat_lt (length out) 64) (out ++ (e ∷ [])) out
+
+abbrev pub all_added : List Event → List Event → List Event
+all_added [] out = out
+all_added (e ∷ es) out = all_added es (added e out)
+
+abbrev pub with_event : {X : Type 0} → Event → Holding X → Holding X
+with_event e h = record { entries = h.entries; events = added e h.events }
+
+-- the request of the slot is held no more
+abbrev pub without_slot : {X : Type 0} → (X → Request) → ℕ → Holding X → Holding X
+without_slot request n h = record { entries = dropped (slot_by request) n h.entries; events = h.events }
+
+-- the first event is collected, and a Done ends the holding
+abbrev pub collected : {X : Type 0} → (X → Request) → Holding X → Holding X
+collected request h = record { entries = dropped_by (slot_by request) (first h.events) h.entries; events = rest h.events }
+
+-- each result that a closure may give is that of f
+abbrev pub Computes : {F X Y : Type 0} → Shared F (X × Unit {0}) Y → (X → Y) → F → Type 0
+Computes g f c = (x : _) (y : _) → g.post c (x, tt) y → y ≡ f x
+
+abbrev pub updated : {X : Type 0} → (X → X) → Holding X → Holding X
+updated f h = record { entries = map f h.entries; events = h.events }
+
+abbrev pub replaced : {X : Type 0} → ℕ → X → Holding X → Holding X
+replaced i x h = record { entries = set h.entries i x; events = h.events }
+
+-- a Done for each entry that passes a test, in the order of taking
+abbrev pub with_dones : {X : Type 0} → (X → Request) → (X → Bool) → Holding X → Holding X
+with_dones request p h = record { entries = h.entries; events = all_added (dones_of (slot_by request) p h.entries) h.events }

@@ -1,0 +1,8 @@
+// What the tables of held requests share: at most 32 entries, each of one request, and the events that are ready.
+#![tactic(auto)]
+
+mod entry;
+mod holder;
+
+pub use entry::OfRequest;
+pub use holder::Holder;
