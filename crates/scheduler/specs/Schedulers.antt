@@ -10,26 +10,27 @@ use Rattle.board.specs.Boards.{BoardView, settings_of}
 use Rattle.store.specs.Stores.{StoreView}
 use Rattle.scheduler.specs.Views.{running_of, state_of}
 
--- what a scheduler holds: the next tick's number, once the run has begun, the controller's state, and the tables
-pub record Standing : Type 0 where
+-- what a scheduler holds: the next tick's number, once the run has begun, the controller, and the tables
+pub record Standing (C : Type 0) : Type 0 where
   pub next : Option ℕ
-  pub controller : List ℕ
+  pub controller : C
   pub board : BoardView
   pub store : StoreView
 
-abbrev pub has_begun : Standing → Bool
+abbrev pub has_begun : {C : Type 0} → Standing C → Bool
 has_begun s = is_some s.next
 
 -- the next tick's number, which is 0 before begin
-abbrev pub next_number : Standing → ℕ
+abbrev pub next_number : {C : Type 0} → Standing C → ℕ
 next_number s = unwrap_or s.next 0
 
-abbrev pub running_at : Standing → Running
-running_at s = running_of (next_number s) s.controller s.board s.store
+-- how it runs, over a controller whose state is read by `state`
+abbrev pub running_at : {C : Type 0} → (C → List ℕ) → Standing C → Running
+running_at state s = running_of (next_number s) (state s.controller) s.board s.store
 
--- as the model has it
-abbrev pub view : Standing → State
-view s = state_of (has_begun s) (settings_of s.board) (running_at s)
+-- as the model has it, over such a controller
+abbrev pub view : {C : Type 0} → (C → List ℕ) → Standing C → State
+view state s = state_of (has_begun s) (settings_of s.board) (running_at state s)
 
 -- a refusal by its number, or that all is well
 abbrev pub reply_of : Option ℕ → Reply

@@ -1,7 +1,6 @@
 // A scheduler and its controller.
 use crate::scheduler::front::Front;
 use board::departures::Departures;
-use interface::Controller;
 use std::marker::Model;
 use store::store::Store;
 
@@ -16,7 +15,7 @@ mod ticks;
 // What is set and which slots are held lies in front, with the controller; rows, serials and the mark of a fake lie in the
 // store, which is never in sight where a request is handed to the controller.
 #[derive(Drop)]
-pub struct Scheduler<C: Controller> {
+pub struct Scheduler<C> {
     front: Front<C>,
     store: Store,
     // who leaves in the tick at hand
@@ -25,15 +24,15 @@ pub struct Scheduler<C: Controller> {
     tick: Option<u64>,
 }
 
-// What a clause sees: the next tick's number, the controller's state and the tables, which are untouched before begin.
-// `view` makes the model's state of it, which cannot be the value itself, since its tables are functions.
-impl<C: Controller> Model for Scheduler<C> {
+// What a clause sees: the next tick's number, the controller and the tables, which are untouched before begin. `view` makes
+// the model's state of it, which cannot be the value itself, since its tables are functions.
+impl<C> Model for Scheduler<C> {
     ghost use Rattle.scheduler.specs.Fresh.{Fresh};
     ghost use Rattle.scheduler.specs.Schedulers.{Standing};
 
-    ghost Value = { Standing };
+    ghost Value = { Standing C };
 
-    ghost view = { λ s. record { next = s.tick; controller = C.state s.front.controller; board = s.front.board; store = s.store } };
+    ghost view = { λ s. record { next = s.tick; controller = s.front.controller; board = s.front.board; store = s.store } };
 
     ghost invariant = { λ s. Fresh s.tick s.front.board s.store };
 }

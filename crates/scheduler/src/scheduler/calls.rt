@@ -25,11 +25,11 @@ impl<C: Controller> Scheduler<C> {
         lines: &mut [Line],
         notices: &mut [Notice],
     ) -> Result<Answer, Refusal>
-        ensures answer { told result ≡ told_of (length lines.old) (length notices.old) (outcome C.meaning (view self.old) (made_call (length lines.old) (length notices.old) call.entry)).reply }
-        ensures after { view self.new ≡ (outcome C.meaning (view self.old) (made_call (length lines.old) (length notices.old) call.entry)).after }
-        ensures lines { lines.new ≡ filled (lines_in (outcome C.meaning (view self.old) (made_call (length lines.old) (length notices.old) call.entry)).reply) lines.old }
-        ensures notices { notices.new ≡ filled (notices_in (outcome C.meaning (view self.old) (made_call (length lines.old) (length notices.old) call.entry)).reply) notices.old }
-        ensures history { (b : List ℕ) (cs : List ModelCall) → view self.old ≡ state_after C.meaning (new_state C.meaning b) cs → Extends C.meaning b cs (made_call (length lines.old) (length notices.old) call.entry) (view self.new) (seen result lines.new notices.new) }
+        ensures answer { told result ≡ told_of (length lines.old) (length notices.old) (outcome C.meaning (view C.state self.old) (made_call (length lines.old) (length notices.old) call.entry)).reply }
+        ensures after { view C.state self.new ≡ (outcome C.meaning (view C.state self.old) (made_call (length lines.old) (length notices.old) call.entry)).after }
+        ensures lines { lines.new ≡ filled (lines_in (outcome C.meaning (view C.state self.old) (made_call (length lines.old) (length notices.old) call.entry)).reply) lines.old }
+        ensures notices { notices.new ≡ filled (notices_in (outcome C.meaning (view C.state self.old) (made_call (length lines.old) (length notices.old) call.entry)).reply) notices.old }
+        ensures history { (b : List ℕ) (cs : List ModelCall) → view C.state self.old ≡ state_after C.meaning (new_state C.meaning b) cs → Extends C.meaning b cs (made_call (length lines.old) (length notices.old) call.entry) (view C.state self.new) (seen result lines.new notices.new) }
         ensures promises { Promises C.meaning }
     {
         self.perform(call, lines, notices)
@@ -41,10 +41,10 @@ impl<C: Controller> Scheduler<C> {
         lines: &mut [Line],
         notices: &mut [Notice],
     ) -> Result<Answer, Refusal>
-        ensures answer { told result ≡ told_of (length lines.old) (length notices.old) (outcome C.meaning (view self.old) (made_call (length lines.old) (length notices.old) call.entry)).reply }
-        ensures after { view self.new ≡ (outcome C.meaning (view self.old) (made_call (length lines.old) (length notices.old) call.entry)).after }
-        ensures lines { lines.new ≡ filled (lines_in (outcome C.meaning (view self.old) (made_call (length lines.old) (length notices.old) call.entry)).reply) lines.old }
-        ensures notices { notices.new ≡ filled (notices_in (outcome C.meaning (view self.old) (made_call (length lines.old) (length notices.old) call.entry)).reply) notices.old }
+        ensures answer { told result ≡ told_of (length lines.old) (length notices.old) (outcome C.meaning (view C.state self.old) (made_call (length lines.old) (length notices.old) call.entry)).reply }
+        ensures after { view C.state self.new ≡ (outcome C.meaning (view C.state self.old) (made_call (length lines.old) (length notices.old) call.entry)).after }
+        ensures lines { lines.new ≡ filled (lines_in (outcome C.meaning (view C.state self.old) (made_call (length lines.old) (length notices.old) call.entry)).reply) lines.old }
+        ensures notices { notices.new ≡ filled (notices_in (outcome C.meaning (view C.state self.old) (made_call (length lines.old) (length notices.old) call.entry)).reply) notices.old }
     {
         match call {
             Call::Open(domain, share) => self.open(domain, share).map(|()| Answer::Accepted),

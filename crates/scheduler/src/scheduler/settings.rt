@@ -23,7 +23,7 @@ impl<C: Controller> Scheduler<C> {
     pub fn new(heap: Global, controller: C) -> Result<Scheduler<C>, AllocError>
     where
         C: Drop,
-        ensures { IfOk result (λ s. view s ≡ new_state C.meaning (C.state controller)) }
+        ensures { IfOk result (λ s. view C.state s ≡ new_state C.meaning (C.state controller)) }
     {
         let board = Board::new(heap)?;
         let store = Store::new(heap)?;
@@ -41,8 +41,8 @@ impl<C: Controller> Scheduler<C> {
 
     // Opens a domain with a share.
     pub fn open(&mut self, domain: u64, share: u64) -> Result<(), Refusal>
-        ensures answer { replied result ≡ (outcome C.meaning (view self.old) (sets (opens domain share))).reply }
-        ensures after { view self.new ≡ (outcome C.meaning (view self.old) (sets (opens domain share))).after }
+        ensures answer { replied result ≡ (outcome C.meaning (view C.state self.old) (sets (opens domain share))).reply }
+        ensures after { view C.state self.new ≡ (outcome C.meaning (view C.state self.old) (sets (opens domain share))).after }
     {
         self.check_setting()?;
         self.front.open(domain, share)
@@ -56,8 +56,8 @@ impl<C: Controller> Scheduler<C> {
         edges: &[EdgeSetting],
         rest: u64,
     ) -> Result<(), Refusal>
-        ensures answer { replied result ≡ (outcome C.meaning (view self.old) (sets (lane domain vertices.now edges.now rest))).reply }
-        ensures after { view self.new ≡ (outcome C.meaning (view self.old) (sets (lane domain vertices.now edges.now rest))).after }
+        ensures answer { replied result ≡ (outcome C.meaning (view C.state self.old) (sets (lane domain vertices.now edges.now rest))).reply }
+        ensures after { view C.state self.new ≡ (outcome C.meaning (view C.state self.old) (sets (lane domain vertices.now edges.now rest))).after }
     {
         self.check_setting()?;
         self.front.board.known();
@@ -73,8 +73,8 @@ impl<C: Controller> Scheduler<C> {
 
     // Sets the first tick's number, which is 0 otherwise.
     pub fn first(&mut self, number: u64) -> Result<(), Refusal>
-        ensures answer { replied result ≡ (outcome C.meaning (view self.old) (sets (first_setting number))).reply }
-        ensures after { view self.new ≡ (outcome C.meaning (view self.old) (sets (first_setting number))).after }
+        ensures answer { replied result ≡ (outcome C.meaning (view C.state self.old) (sets (first_setting number))).reply }
+        ensures after { view C.state self.new ≡ (outcome C.meaning (view C.state self.old) (sets (first_setting number))).after }
     {
         self.check_setting()?;
         self.front.board.set_first(number)
@@ -82,8 +82,8 @@ impl<C: Controller> Scheduler<C> {
 
     // Ends the setting.
     pub fn begin(&mut self) -> Result<(), Refusal>
-        ensures answer { replied result ≡ (outcome C.meaning (view self.old) begins).reply }
-        ensures after { view self.new ≡ (outcome C.meaning (view self.old) begins).after }
+        ensures answer { replied result ≡ (outcome C.meaning (view C.state self.old) begins).reply }
+        ensures after { view C.state self.new ≡ (outcome C.meaning (view C.state self.old) begins).after }
     {
         self.check_setting()?;
         self.tick = Some(start(&mut self.front.board));

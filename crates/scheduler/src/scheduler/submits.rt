@@ -15,8 +15,8 @@ use store::store::Store;
 impl<C: Controller> Scheduler<C> {
     // A request of a domain: its serial.
     pub fn submit(&mut self, domain: u64, bank: u64, kind: Kind, row: u64) -> Result<u64, Refusal>
-        ensures answer { serial_reply result ≡ (outcome C.meaning (view self.old) (submit_call domain bank kind row)).reply }
-        ensures after { view self.new ≡ (outcome C.meaning (view self.old) (submit_call domain bank kind row)).after }
+        ensures answer { serial_reply result ≡ (outcome C.meaning (view C.state self.old) (submit_call domain bank kind row)).reply }
+        ensures after { view C.state self.new ≡ (outcome C.meaning (view C.state self.old) (submit_call domain bank kind row)).after }
     {
         if self.tick.is_none() {
             return Err(Refusal::WrongPhase);

@@ -28,10 +28,10 @@ impl<C: Controller> Scheduler<C> {
         lines: &mut [Line],
         notices: &mut [Notice],
     ) -> Result<(usize, usize), Refusal>
-        ensures answer { tick_told result ≡ told_of (length lines.old) (length notices.old) (outcome C.meaning (view self.old) (tick_call (length lines.old) (length notices.old))).reply }
-        ensures after { view self.new ≡ (outcome C.meaning (view self.old) (tick_call (length lines.old) (length notices.old))).after }
-        ensures lines { lines.new ≡ filled (lines_in (outcome C.meaning (view self.old) (tick_call (length lines.old) (length notices.old))).reply) lines.old }
-        ensures notices { notices.new ≡ filled (notices_in (outcome C.meaning (view self.old) (tick_call (length lines.old) (length notices.old))).reply) notices.old }
+        ensures answer { tick_told result ≡ told_of (length lines.old) (length notices.old) (outcome C.meaning (view C.state self.old) (tick_call (length lines.old) (length notices.old))).reply }
+        ensures after { view C.state self.new ≡ (outcome C.meaning (view C.state self.old) (tick_call (length lines.old) (length notices.old))).after }
+        ensures lines { lines.new ≡ filled (lines_in (outcome C.meaning (view C.state self.old) (tick_call (length lines.old) (length notices.old))).reply) lines.old }
+        ensures notices { notices.new ≡ filled (notices_in (outcome C.meaning (view C.state self.old) (tick_call (length lines.old) (length notices.old))).reply) notices.old }
     {
         let tick = admitted(self.tick, lines.len(), notices.len())?;
         let mut lines = Page::new(lines);
@@ -44,9 +44,9 @@ impl<C: Controller> Scheduler<C> {
     fn pass(&mut self, tick: Tick, lines: &mut Page<Line>, notices: &mut Page<Notice>)
         ensures begun { has_begun self.new ≡ true }
         ensures settings { settings_of self.new.board ≡ settings_of self.old.board }
-        ensures running { running_at self.new ≡ ticked C.meaning (settings_of self.old.board) (running_of tick.number self.old.controller self.old.board self.old.store) }
-        ensures lines { Wrote (bus_lines C.meaning (settings_of self.old.board) tick.number self.old.controller (tables_of self.old.board self.old.store)) lines.old lines.new }
-        ensures notices { Wrote (bus_notices C.meaning (settings_of self.old.board) tick.number self.old.controller (tables_of self.old.board self.old.store)) notices.old notices.new }
+        ensures running { running_at C.state self.new ≡ ticked C.meaning (settings_of self.old.board) (running_of tick.number (C.state self.old.controller) self.old.board self.old.store) }
+        ensures lines { Wrote (bus_lines C.meaning (settings_of self.old.board) tick.number (C.state self.old.controller) (tables_of self.old.board self.old.store)) lines.old lines.new }
+        ensures notices { Wrote (bus_notices C.meaning (settings_of self.old.board) tick.number (C.state self.old.controller) (tables_of self.old.board self.old.store)) notices.old notices.new }
     {
         self.front.board.known();
         self.store.known();

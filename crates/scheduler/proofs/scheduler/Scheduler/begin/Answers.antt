@@ -9,19 +9,19 @@ pub returns-in_err-check_setting : goal.returns-in_err-check_setting
 returns-in_err-check_setting g c =
     let m = g.C.Controller in
     let s = c.args.self.now in
-    let answer = again_reply m.meaning (has_begun s) (settings_of s.board) (running_at s) _ c.in_err-check_setting.ensures in
+    let answer = again_reply m.meaning (has_begun s) (settings_of s.board) (running_at m.state s) _ c.in_err-check_setting.ensures in
     record {
       answer = search (rules, answer);
-      after = again_after m.meaning (has_begun s) (settings_of s.board) (running_at s) _ c.in_err-check_setting.ensures;
+      after = again_after m.meaning (has_begun s) (settings_of s.board) (running_at m.state s) _ c.in_err-check_setting.ensures;
     }
 
 pub returns : goal.returns
 returns g c =
     let m = g.C.Controller in
     let o = c.self.inside in
-    let s : Standing = record { next = o.tick; controller = m.state o.front.controller; board = o.front.board; store = o.store } in
+    let s : Standing _ = record { next = o.tick; controller = o.front.controller; board = o.front.board; store = o.store } in
     let no : has_begun s ≡ false = ap has_begun c.self.view_is ∙ unbegun (has_begun c.args.self.now) c.in_ok-check_setting.ensures in
     rw (← c.self.view_is) (record {
-      answer = begin_reply m.meaning (has_begun s) (settings_of s.board) (running_at s) no;
-      after = begin_after m.meaning (has_begun s) (next_number s) c.start.result s.controller s.board c.start.new.board s.store no c.start.ensures.after c.start.ensures.value c.self.invariant;
+      answer = begin_reply m.meaning (has_begun s) (settings_of s.board) (running_at m.state s) no;
+      after = begin_after m.meaning (has_begun s) (next_number s) c.start.result (m.state s.controller) s.board c.start.new.board s.store no c.start.ensures.after c.start.ensures.value c.self.invariant;
     })

@@ -12,7 +12,7 @@ returns g c =
       after = c.perform.ensures.after;
       lines = c.perform.ensures.lines;
       notices = c.perform.ensures.notices;
-      history = extends m.meaning lawful (view c.args.self.now) (view c.perform.new.self) c.args.call c.perform.result c.args.lines.now c.perform.new.lines c.args.notices.now c.perform.new.notices
+      history = extends m.meaning lawful (view m.state c.args.self.now) (view m.state c.perform.new.self) c.args.call c.perform.result c.args.lines.now c.perform.new.lines c.args.notices.now c.perform.new.notices
           c.perform.ensures.answer c.perform.ensures.after c.perform.ensures.lines c.perform.ensures.notices;
       promises = promises m.meaning lawful;
     }

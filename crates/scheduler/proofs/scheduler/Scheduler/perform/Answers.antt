@@ -8,7 +8,7 @@ use Rattle.scheduler.proofs.scheduler.Scheduler.perform.Goals as goal
 pub returns-in-Open : goal.returns-in-Open
 returns-in-Open g c =
     let m = g.C.Controller in
-    let w = view c.args.self.now in
+    let w = view m.state c.args.self.now in
     let l = length c.args.lines.now in
     let n = length c.args.notices.now in
     let k = sets (opens c.in-Open.domain c.in-Open.share) in
@@ -24,7 +24,7 @@ returns-in-Open g c =
 pub returns-in-Lane : goal.returns-in-Lane
 returns-in-Lane g c =
     let m = g.C.Controller in
-    let w = view c.args.self.now in
+    let w = view m.state c.args.self.now in
     let l = length c.args.lines.now in
     let n = length c.args.notices.now in
     let k = sets (lane c.in-Lane.domain c.in-Lane.setting.vertices.now c.in-Lane.setting.edges.now c.in-Lane.setting.rest) in
@@ -40,7 +40,7 @@ returns-in-Lane g c =
 pub returns-in-First : goal.returns-in-First
 returns-in-First g c =
     let m = g.C.Controller in
-    let w = view c.args.self.now in
+    let w = view m.state c.args.self.now in
     let l = length c.args.lines.now in
     let n = length c.args.notices.now in
     let k = sets (first c.in-First.number) in
@@ -56,7 +56,7 @@ returns-in-First g c =
 pub returns-in-Begin : goal.returns-in-Begin
 returns-in-Begin g c =
     let m = g.C.Controller in
-    let w = view c.args.self.now in
+    let w = view m.state c.args.self.now in
     let l = length c.args.lines.now in
     let n = length c.args.notices.now in
     let k = begins in
@@ -72,7 +72,7 @@ returns-in-Begin g c =
 pub returns-in-Submit : goal.returns-in-Submit
 returns-in-Submit g c =
     let m = g.C.Controller in
-    let w = view c.args.self.now in
+    let w = view m.state c.args.self.now in
     let l = length c.args.lines.now in
     let n = length c.args.notices.now in
     let k = submit c.in-Submit.domain c.in-Submit.bank c.in-Submit.kind c.in-Submit.row in
@@ -88,7 +88,7 @@ returns-in-Submit g c =
 pub returns-in-Tick : goal.returns-in-Tick
 returns-in-Tick g c =
     let m = g.C.Controller in
-    let w = view c.args.self.now in
+    let w = view m.state c.args.self.now in
     let l = length c.args.lines.now in
     let n = length c.args.notices.now in
     let k = ticks l n in

@@ -14,16 +14,16 @@ pub returns-in_err-tick : goal.returns-in_err-tick
 returns-in_err-tick g c =
     let m = g.C.Controller in
     let o = c.self.inside in
-    let s : Standing = record { next = o.tick; controller = m.state o.front.controller; board = o.front.board; store = o.store } in
+    let s : Standing _ = record { next = o.tick; controller = o.front.controller; board = o.front.board; store = o.store } in
     let k = settings_of s.board in
     let l = length c.args.lines.now in
     let n = length c.args.notices.now in
-    let y = (outcome m.meaning (view s) (ticks l n)).reply in
-    let is = refused_reply m.meaning (has_begun s) k (running_at s) l n _ c.in_err-tick.ensures.refusal in
+    let y = (outcome m.meaning (view m.state s) (ticks l n)).reply in
+    let is = refused_reply m.meaning (has_begun s) k (running_at m.state s) l n _ c.in_err-tick.ensures.refusal in
     let answer = refused_told l n y _ is in
     rw (← c.self.view_is) (record {
       answer = search (rules, answer);
-      after = refused_after m.meaning (has_begun s) k (running_at s) l n _ c.in_err-tick.ensures.refusal;
+      after = refused_after m.meaning (has_begun s) k (running_at m.state s) l n _ c.in_err-tick.ensures.refusal;
       lines = refused_lines l n y _ is c.args.lines.now;
       notices = refused_notices l n y _ is c.args.notices.now;
     })
@@ -35,14 +35,14 @@ returns g c =
     let k = settings_of s.board in
     let l = length c.args.lines.now in
     let n = length c.args.notices.now in
-    let y = (outcome m.meaning (view s) (ticks l n)).reply in
+    let y = (outcome m.meaning (view m.state s) (ticks l n)).reply in
     let at : c.in_ok-tick.tick.number ≡ next_number s = c.in_ok-tick.ensures.value ∙ ap next_number c.self.view_is in
-    let good = c.in_ok-tick.ensures.refusal ∙ ap (λ (x : Standing). tick_checks (has_begun x) (next_number x) l n) c.self.view_is in
-    let is = good_reply m.meaning (has_begun s) k (running_at s) l n good in
-    let bus = lines m.meaning k (next_number s) s.controller (tables_of s.board s.store) in
-    let told = notices m.meaning k (next_number s) s.controller (tables_of s.board s.store) in
-    let ls = c.pass.ensures.lines.1 ∙ ap (wrote_all (lines m.meaning k c.in_ok-tick.tick.number s.controller (tables_of s.board s.store))) c.new-lines.ensures.empty ∙ ap (λ i. wrote_all (lines m.meaning k i s.controller (tables_of s.board s.store)) (page c.args.lines.now 0)) at in
-    let ns = c.pass.ensures.notices.1 ∙ ap (wrote_all (notices m.meaning k c.in_ok-tick.tick.number s.controller (tables_of s.board s.store))) c.new-notices.ensures.empty ∙ ap (λ i. wrote_all (notices m.meaning k i s.controller (tables_of s.board s.store)) (page c.args.notices.now 0)) at in
+    let good = c.in_ok-tick.ensures.refusal ∙ ap (λ (x : Standing _). tick_checks (has_begun x) (next_number x) l n) c.self.view_is in
+    let is = good_reply m.meaning (has_begun s) k (running_at m.state s) l n good in
+    let bus = lines m.meaning k (next_number s) (m.state s.controller) (tables_of s.board s.store) in
+    let told = notices m.meaning k (next_number s) (m.state s.controller) (tables_of s.board s.store) in
+    let ls = c.pass.ensures.lines.1 ∙ ap (wrote_all (lines m.meaning k c.in_ok-tick.tick.number (m.state s.controller) (tables_of s.board s.store))) c.new-lines.ensures.empty ∙ ap (λ i. wrote_all (lines m.meaning k i (m.state s.controller) (tables_of s.board s.store)) (page c.args.lines.now 0)) at in
+    let ns = c.pass.ensures.notices.1 ∙ ap (wrote_all (notices m.meaning k c.in_ok-tick.tick.number (m.state s.controller) (tables_of s.board s.store))) c.new-notices.ensures.empty ∙ ap (λ i. wrote_all (notices m.meaning k i (m.state s.controller) (tables_of s.board s.store)) (page c.args.notices.now 0)) at in
     let z = c.pass.new.self in
     let counted = counts_are y bus told is c.args.lines.now c.pass.new.lines.buffer.now c.args.notices.now c.pass.new.notices.buffer.now c.pass.new.lines.written c.pass.new.notices.written ls ns in
     let written = lines_are y bus told is c.args.lines.now c.pass.new.lines.buffer.now c.args.notices.now c.pass.new.notices.buffer.now c.pass.new.lines.written c.pass.new.notices.written ls ns in
@@ -50,11 +50,11 @@ returns g c =
     record {
       answer = search (rules, counted);
       after =
-          ap (λ h. state_of h (settings_of z.board) (running_at z)) c.pass.ensures.begun
-          ∙ ap (λ (h : Settings). running h (running_at z)) c.pass.ensures.settings
+          ap (λ h. state_of h (settings_of z.board) (running_at m.state z)) c.pass.ensures.begun
+          ∙ ap (λ (h : Settings). running h (running_at m.state z)) c.pass.ensures.settings
           ∙ ap (running k) c.pass.ensures.running
-          ∙ ap (λ i. running k (ticked m.meaning k (running_of i s.controller s.board s.store))) at
-          ∙ sym (good_after m.meaning (has_begun s) k (running_at s) l n good);
+          ∙ ap (λ i. running k (ticked m.meaning k (running_of i (m.state s.controller) s.board s.store))) at
+          ∙ sym (good_after m.meaning (has_begun s) k (running_at m.state s) l n good);
       lines = search (rules, written);
       notices = search (rules, noted);
     }
