@@ -1,4 +1,9 @@
 // A scheduler and its controller.
+ghost use Rattle.std.specs.Prelude.{◌≡◌, ℕ, ◌≤◌, length, Some, None, slice_index_or};
+ghost use Rattle.board.specs.Boards.{slots_set, Known};
+ghost use Rattle.store.specs.Stores.{Sized};
+ghost use Rattle.scheduler.specs.Fresh.{Fresh};
+
 use crate::scheduler::front::Front;
 use board::departures::Departures;
 use std::marker::Model;
@@ -35,4 +40,18 @@ impl<C> Model for Scheduler<C> {
     ghost view = { λ s. record { next = s.tick; controller = s.front.controller; board = s.front.board; store = s.store } };
 
     ghost invariant = { λ s. Fresh s.tick s.front.board s.store };
+}
+
+impl<C> Scheduler<C> {
+    // What is known of every scheduler, for the proofs of its callers: it does nothing.
+    pub fn known(&self)
+        ensures fresh { Fresh self.now.next self.now.board self.now.store }
+        ensures board { Known self.now.board (slots_set self.now.board) }
+        ensures slots { length self.now.board.slots ≡ 512 }
+        ensures shares { (d n : ℕ) → slice_index_or self.now.board.shares d None ≡ Some n → (1 ≤ n) × (n ≤ 16) }
+        ensures store { Sized self.now.store }
+    {
+        self.front.board.known();
+        self.store.known();
+    }
 }
