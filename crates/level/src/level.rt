@@ -1,5 +1,5 @@
 // A level: what it holds, and its calls.
-ghost use Rattle.std.specs.Prelude.{◌≡◌, IfOk};
+ghost use Rattle.std.specs.Prelude.{◌≡◌, ◌≤◌, length, IfOk};
 ghost use Rattle.interface.specs.Meaning.{accepted, refused, step_refusal, left_of};
 ghost use Rattle.layer.specs.Contents.{admission};
 ghost use Rattle.level.specs.Laws.{Levels};
@@ -26,6 +26,15 @@ impl<C> Model for Level<C> {
     ghost Value = { Parts C };
 
     ghost view = { λ l. record { delay = l.delay; table = l.table; below = l.below } };
+}
+
+impl<C> Level<C> {
+    // What is known of every level, for the proofs of its callers: it does nothing.
+    pub fn known(&self)
+        ensures { length self.now.table.held ≤ 32 }
+    {
+        self.table.known();
+    }
 }
 
 impl<C: CountableSpan + Drop> Level<C> {

@@ -1,5 +1,5 @@
 // A pair: what it holds, and its calls.
-ghost use Rattle.std.specs.Prelude.{◌≡◌, IfOk};
+ghost use Rattle.std.specs.Prelude.{◌≡◌, ◌≤◌, length, IfOk};
 ghost use Rattle.interface.specs.Meaning.{accepted, refused, step_refusal, left_of};
 ghost use Rattle.layer.specs.Contents.{admission};
 ghost use Rattle.pair.specs.Laws.{Pairs};
@@ -35,6 +35,15 @@ fn goes_first(request: Request) -> bool
     ensures { result ≡ to_first request }
 {
     request.bank < 4
+}
+
+impl<A, B> Pair<A, B> {
+    // What is known of every pair, for the proofs of its callers: it does nothing.
+    pub fn known(&self)
+        ensures { length self.now.table.held ≤ 32 }
+    {
+        self.table.known();
+    }
 }
 
 impl<A: CountableSpan + Drop, B: CountableSpan + Drop> Pair<A, B> {
