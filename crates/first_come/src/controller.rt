@@ -1,5 +1,5 @@
 // The first-come controller.
-ghost use Rattle.std.specs.Prelude.{◌≡◌, IfOk};
+ghost use Rattle.std.specs.Prelude.{◌≡◌, ◌≤◌, length, IfOk};
 ghost use Rattle.interface.specs.Meaning.{left_of};
 ghost use Rattle.first_come.specs.Laws.{IsFirstCome, DoneInTime};
 ghost use Rattle.first_come.specs.State.{beginning, issue, first_come_meaning, state_codes};
@@ -41,6 +41,13 @@ impl FirstCome {
         let table = Table::new(heap)?;
         let gaps = Gaps::new();
         Ok(FirstCome { table, gaps })
+    }
+
+    // What is known of every such controller, for the proofs of its callers: it does nothing.
+    pub fn known(&self)
+        ensures { length self.now.rows.entries ≤ 32 }
+    {
+        self.table.known();
     }
 
     // The oldest request that waits is issued if the gaps allow.

@@ -1,5 +1,5 @@
 // A table of held requests. It behaves as a controller that issues nothing of itself, and issues when it is told to.
-ghost use Rattle.std.specs.Prelude.{◌≡◌, IfOk, if◌then◌else◌};
+ghost use Rattle.std.specs.Prelude.{◌≡◌, ◌≤◌, length, IfOk, if◌then◌else◌};
 ghost use Rattle.std.specs.Option.{option_map};
 ghost use Rattle.interface.specs.Meaning.{Call, after, accepted, refused, first, is_empty, take_refusal};
 ghost use Rattle.held.specs.Entries.{next_of, of_whom, request_of};
@@ -34,6 +34,13 @@ impl Table {
     {
         let holder = Holder::new(heap)?;
         Ok(Table { holder })
+    }
+
+    // What is known of every table, for the proofs of its callers: it does nothing.
+    pub fn known(&self)
+        ensures { length self.now.entries ≤ 32 }
+    {
+        self.holder.known();
     }
 
     pub fn clear(&mut self)

@@ -10,10 +10,20 @@ use Rattle.layer.specs.Forwards.{is_issue}
 use Rattle.layer.specs.Entries.{reading}
 use Rattle.layer.specs.Contents.{Contents, empty, admitted, gathered, all_advanced, released, collected, contents_codec}
 
+-- what a level consists of, over a controller of type C
+pub record Parts (C : Type 0) : Type 0 where
+  pub delay : ℕ
+  pub table : Contents
+  pub below : C
+
 pub record State : Type 0 where
   pub delay : ℕ
   pub table : Contents
   pub below : List ℕ
+
+-- a level's state, over what is read as the state below
+abbrev pub view : {C : Type 0} → (C → List ℕ) → Parts C → State
+view below l = record { delay = l.delay; table = l.table; below = below l.below }
 
 -- nothing is held, and nothing is ready
 abbrev pub beginning : ℕ → List ℕ → State

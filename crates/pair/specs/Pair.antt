@@ -10,10 +10,20 @@ use Rattle.layer.specs.Forwards.{everything}
 use Rattle.layer.specs.Entries.{reading}
 use Rattle.layer.specs.Contents.{Contents, empty, admitted, gathered, all_advanced, collected, contents_codec}
 
+-- what a pair consists of, over controllers of types A and B
+pub record Parts (A B : Type 0) : Type 0 where
+  pub table : Contents
+  pub first : A
+  pub second : B
+
 pub record State : Type 0 where
   pub table : Contents
   pub first : List ℕ
   pub second : List ℕ
+
+-- a pair's state, over what is read as the states of the two
+abbrev pub view : {A B : Type 0} → (A → List ℕ) → (B → List ℕ) → Parts A B → State
+view first second p = record { table = p.table; first = first p.first; second = second p.second }
 
 -- nothing is held, and nothing is ready
 abbrev pub beginning : List ℕ → List ℕ → State

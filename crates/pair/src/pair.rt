@@ -1,9 +1,9 @@
 // A pair: what it holds, and its calls.
-ghost use Rattle.std.specs.Prelude.{◌≡◌, IfOk};
+ghost use Rattle.std.specs.Prelude.{◌≡◌, ◌≤◌, length, IfOk};
 ghost use Rattle.interface.specs.Meaning.{accepted, refused, step_refusal, left_of};
 ghost use Rattle.layer.specs.Contents.{admission};
 ghost use Rattle.pair.specs.Laws.{Pairs};
-ghost use Rattle.pair.specs.Pair.{beginning, to_first, meaning_of, pair_meaning, pair_codes};
+ghost use Rattle.pair.specs.Pair.{beginning, view, to_first, meaning_of, pair_meaning, pair_codes};
 ghost use Rattle.pair.specs.Lawfulness.{pair_laws};
 ghost use Rattle.std.proofs.Common.{rules};
 
@@ -13,7 +13,7 @@ use std::alloc::{AllocError, Global};
 use std::marker::Model;
 
 #[derive(Drop)]
-pub struct Pair<A: Controller, B: Controller> {
+pub struct Pair<A, B> {
     // banks 0 to 3
     first: A,
     // banks 4 to 7
@@ -21,13 +21,13 @@ pub struct Pair<A: Controller, B: Controller> {
     table: Table,
 }
 
-// What a clause sees: the table, and the states of both controllers.
-impl<A: Controller, B: Controller> Model for Pair<A, B> {
-    ghost use Rattle.pair.specs.Pair.{State};
+// What a clause sees: the table, and both controllers.
+impl<A, B> Model for Pair<A, B> {
+    ghost use Rattle.pair.specs.Pair.{Parts};
 
-    ghost Value = { State };
+    ghost Value = { Parts A B };
 
-    ghost view = { λ p. record { table = p.table; first = A.Controller.state p.first; second = B.Controller.state p.second } };
+    ghost view = { λ p. record { table = p.table; first = p.first; second = p.second } };
 }
 
 // Whether a request goes to the first controller.
@@ -37,11 +37,20 @@ fn goes_first(request: Request) -> bool
     request.bank < 4
 }
 
+impl<A, B> Pair<A, B> {
+    // What is known of every pair, for the proofs of its callers: it does nothing.
+    pub fn known(&self)
+        ensures { length self.now.table.held ≤ 32 }
+    {
+        self.table.known();
+    }
+}
+
 impl<A: CountableSpan + Drop, B: CountableSpan + Drop> Pair<A, B> {
     // A pair of two controllers, which are reset, unless memory is wanting. In every history of calls to it, each request is
     // taken by the controller of its bank, and each event comes in the step in which that controller has it.
     pub fn new(heap: Global, first: A, second: B) -> Result<Pair<A, B>, AllocError>
-        ensures made { IfOk result (λ p. p ≡ (meaning_of A.Controller.meaning B.Controller.meaning).start (beginning (A.Controller.state first) (B.Controller.state second))) }
+        ensures made { IfOk result (λ p. view A.Controller.state B.Controller.state p ≡ (meaning_of A.Controller.meaning B.Controller.meaning).start (beginning (A.Controller.state first) (B.Controller.state second))) }
         ensures pairs { Pairs A.Controller.meaning B.Controller.meaning (A.Controller.state first) (B.Controller.state second) }
     {
         let table = Table::new(heap)?;
@@ -52,7 +61,7 @@ impl<A: CountableSpan + Drop, B: CountableSpan + Drop> Pair<A, B> {
 impl<A: Controller + Drop, B: Controller + Drop> Pair<A, B> {
     // A pair with this table, of two controllers, which are reset.
     fn of(first: A, second: B, table: Table) -> Pair<A, B>
-        ensures { result ≡ record { table = table; first = A.Controller.meaning.start (A.Controller.state first); second = B.Controller.meaning.start (B.Controller.state second) } }
+        ensures { view A.Controller.state B.Controller.state result ≡ record { table = table; first = A.Controller.meaning.start (A.Controller.state first); second = B.Controller.meaning.start (B.Controller.state second) } }
     {
         let mut pair = Pair {
             first,
@@ -66,15 +75,15 @@ impl<A: Controller + Drop, B: Controller + Drop> Pair<A, B> {
 
     // The smaller number of places.
     fn fewest(&self) -> u8
-        ensures { result ≡ (meaning_of A.Controller.meaning B.Controller.meaning).places self.now }
+        ensures { result ≡ (meaning_of A.Controller.meaning B.Controller.meaning).places (view A.Controller.state B.Controller.state self.now) }
     {
         self.first.places().min(self.second.places())
     }
 
     // Holds a request, and has it held by the controller of its bank.
     fn hold(&mut self, request: Request) -> Result<(), Refusal>
-        ensures answer { refused result ≡ admission ((meaning_of A.Controller.meaning B.Controller.meaning).places self.old) self.old.table request }
-        ensures after { self.new ≡ accepted (refused result) ((meaning_of A.Controller.meaning B.Controller.meaning).taken self.old request) self.old }
+        ensures answer { refused result ≡ admission ((meaning_of A.Controller.meaning B.Controller.meaning).places (view A.Controller.state B.Controller.state self.old)) (view A.Controller.state B.Controller.state self.old).table request }
+        ensures after { view A.Controller.state B.Controller.state self.new ≡ accepted (refused result) ((meaning_of A.Controller.meaning B.Controller.meaning).taken (view A.Controller.state B.Controller.state self.old) request) (view A.Controller.state B.Controller.state self.old) }
     {
         let places = self.fewest();
         self.table.admit(places, request)?;
@@ -88,8 +97,8 @@ impl<A: Controller + Drop, B: Controller + Drop> Pair<A, B> {
 
     // Lets a tick pass in both: the events of the first come before those of the second.
     fn pass(&mut self) -> Result<(), Refusal>
-        ensures answer { refused result ≡ step_refusal (meaning_of A.Controller.meaning B.Controller.meaning) self.old }
-        ensures after { self.new ≡ accepted (refused result) ((meaning_of A.Controller.meaning B.Controller.meaning).stepped self.old) self.old }
+        ensures answer { refused result ≡ step_refusal (meaning_of A.Controller.meaning B.Controller.meaning) (view A.Controller.state B.Controller.state self.old) }
+        ensures after { view A.Controller.state B.Controller.state self.new ≡ accepted (refused result) ((meaning_of A.Controller.meaning B.Controller.meaning).stepped (view A.Controller.state B.Controller.state self.old)) (view A.Controller.state B.Controller.state self.old) }
     {
         if self.table.has_events() {
             return Err(Refusal::EventsReady);
@@ -104,7 +113,7 @@ impl<A: Controller + Drop, B: Controller + Drop> Pair<A, B> {
 
     // Holds nothing, here and below.
     fn clear(&mut self)
-        ensures { self.new ≡ (meaning_of A.Controller.meaning B.Controller.meaning).start self.old }
+        ensures { view A.Controller.state B.Controller.state self.new ≡ (meaning_of A.Controller.meaning B.Controller.meaning).start (view A.Controller.state B.Controller.state self.old) }
     {
         self.table.clear();
         self.first.reset();
@@ -115,13 +124,13 @@ impl<A: Controller + Drop, B: Controller + Drop> Pair<A, B> {
 impl<A: CountableSpan + Drop, B: CountableSpan + Drop> Controller for Pair<A, B> {
     ghost meaning = { pair_meaning A.Controller.meaning B.Controller.meaning };
 
-    ghost state = { pair_codes };
+    ghost state = { λ p. pair_codes (view A.Controller.state B.Controller.state p) };
 
-    ghost held = { λ p. (pair_meaning A.Controller.meaning B.Controller.meaning).held (pair_codes p) };
+    ghost held = { λ p. (pair_meaning A.Controller.meaning B.Controller.meaning).held (pair_codes (view A.Controller.state B.Controller.state p)) };
 
-    ghost ready = { λ p. (pair_meaning A.Controller.meaning B.Controller.meaning).ready (pair_codes p) };
+    ghost ready = { λ p. (pair_meaning A.Controller.meaning B.Controller.meaning).ready (pair_codes (view A.Controller.state B.Controller.state p)) };
 
-    ghost steps_left = { λ p. left_of ((pair_meaning A.Controller.meaning B.Controller.meaning).held (pair_codes p)) };
+    ghost steps_left = { λ p. left_of ((pair_meaning A.Controller.meaning B.Controller.meaning).held (pair_codes (view A.Controller.state B.Controller.state p))) };
 
     ghost lawful = { pair_laws A.Controller.meaning B.Controller.meaning A.Controller.lawful B.Controller.lawful A.CountableSpan.span_fits B.CountableSpan.span_fits };
 

@@ -1,5 +1,5 @@
 // The controller by turns.
-ghost use Rattle.std.specs.Prelude.{◌≡◌, IfOk};
+ghost use Rattle.std.specs.Prelude.{◌≡◌, ◌<◌, ◌≤◌, length, IfOk};
 ghost use Rattle.interface.specs.Meaning.{Call, after, refused, first, left_of, take_refusal};
 ghost use Rattle.held.specs.Rows.{table_meaning};
 ghost use Rattle.turns.specs.State.{beginning, with_rows, whose_turn, issue_in_turn, counted, turns_span, turns_meaning, state_codes};
@@ -60,6 +60,14 @@ impl Turns {
     {
         let table = Table::new(heap)?;
         Ok(Turns { table, step: 0 })
+    }
+
+    // What is known of every such controller, for the proofs of its callers: it does nothing.
+    pub fn known(&self)
+        ensures few { length self.now.rows.entries ≤ 32 }
+        ensures round { self.now.step < 368 }
+    {
+        self.table.known();
     }
 
     // Holds a request, to be done within 32 rounds and the longest delay.
