@@ -24,11 +24,6 @@ is_done T = false
 is_done I = false
 is_done D = true
 
-abbrev pub is_letter : Letter → Letter → Bool
-is_letter T = is_taken
-is_letter I = is_issued
-is_letter D = is_done
-
 -- how many lines have a letter that passes
 abbrev pub lines_with : (Letter → Bool) → List Line → ℕ
 lines_with p ls = count_by (λ (l : Line). p l.letter) ls
