@@ -2,7 +2,7 @@
 ghost use Rattle.std.specs.Prelude.{◌≡◌};
 ghost use Rattle.held.specs.Entries.{request_of, later, is_waiting, expired, issued_now, done_delay, new_entry, of_whom, candidate};
 
-use holder::OfRequest;
+use holder::{Change, OfRequest, Test};
 use interface::{Kind, Request};
 
 #[derive(Clone, Copy)]
@@ -19,6 +19,30 @@ impl OfRequest for Entry {
 
     fn request(&self) -> Request {
         self.request
+    }
+}
+
+// A step passes.
+#[derive(Clone, Copy)]
+pub(crate) struct Step;
+
+impl Change<Entry> for Step {
+    ghost changed = { λ _. later };
+
+    fn changed(&self, entry: Entry) -> Entry {
+        entry.later()
+    }
+}
+
+// The delay from issue to Done has run out.
+#[derive(Clone, Copy)]
+pub(crate) struct Expired;
+
+impl Test<Entry> for Expired {
+    ghost passes = { λ _. expired };
+
+    fn passes(&self, entry: Entry) -> bool {
+        entry.expired()
     }
 }
 

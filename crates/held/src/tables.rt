@@ -5,7 +5,7 @@ ghost use Rattle.interface.specs.Meaning.{Call, after, accepted, refused, first,
 ghost use Rattle.held.specs.Entries.{next_of, of_whom, request_of};
 ghost use Rattle.held.specs.Rows.{no_rows, table_meaning, busy, passed, issue_oldest, first_out};
 
-use crate::entries::Entry;
+use crate::entries::{Entry, Expired, Step};
 use holder::Holder;
 use interface::{Event, Refusal, Request};
 use std::alloc::{AllocError, Global};
@@ -65,8 +65,8 @@ impl Table {
         if self.holder.has_events() {
             return Err(Refusal::EventsReady);
         }
-        self.holder.update(|entry| entry.later());
-        self.holder.add_dones(|entry| entry.expired());
+        self.holder.update(&Step);
+        self.holder.add_dones(&Expired);
         Ok(())
     }
 

@@ -1,6 +1,5 @@
 -- What a holder holds, and what its calls do.
-use Rattle.std.specs.Prelude.{◌≡◌, ℕ, Bool, min, cond, not, List, [], ◌∷◌, ◌++◌, map, length, set, None, Option, nat_le, nat_lt}
-use Rattle.std.specs.Fn.{Shared}
+use Rattle.std.specs.Prelude.{ℕ, Bool, min, cond, not, List, [], ◌∷◌, ◌++◌, map, length, set, None, Option, nat_le, nat_lt}
 use Rattle.interface.specs.Meaning.{any, first, rest, check, in_range}
 use Rattle.interface.specs.Slots.{has_in, dropped, dropped_by, dones_of}
 use Rattle.interface.specs.declared.Request.{Request}
@@ -46,10 +45,6 @@ without_slot request n h = record { entries = dropped (slot_by request) n h.entr
 -- the first event is collected, and a Done ends the holding
 abbrev pub collected : {X : Type 0} → (X → Request) → Holding X → Holding X
 collected request h = record { entries = dropped_by (slot_by request) (first h.events) h.entries; events = rest h.events }
-
--- each result that a closure may give is that of f
-abbrev pub Computes : {F X Y : Type 0} → Shared F (X × Unit {0}) Y → (X → Y) → F → Type 0
-Computes g f c = (x : _) (y : _) → g.post c (x, tt) y → y ≡ f x
 
 abbrev pub updated : {X : Type 0} → (X → X) → Holding X → Holding X
 updated f h = record { entries = map f h.entries; events = h.events }

@@ -1,11 +1,11 @@
 // What a table of held requests consists of, and its calls.
-ghost use Rattle.std.specs.Prelude.{◌≡◌, ◌≤◌, Bool, not, List, [], ◌∷◌, ◌++◌, map, length, position, IfOk};
+ghost use Rattle.std.specs.Prelude.{◌≡◌, ◌≤◌, not, List, [], ◌∷◌, ◌++◌, map, length, position, IfOk};
 ghost use Rattle.std.specs.VecDeque.{deque_capacity};
 ghost use Rattle.interface.specs.Meaning.{refused, accepted, first, is_empty, any};
 ghost use Rattle.interface.specs.Slots.{has_in, dones_of};
-ghost use Rattle.holder.specs.Holding.{nothing, slot_by, admission, admitted, with_event, without_slot, collected, Computes, updated, replaced, added, all_added, with_dones};
+ghost use Rattle.holder.specs.Holding.{nothing, slot_by, admission, admitted, with_event, without_slot, collected, updated, replaced, added, all_added, with_dones};
 
-use crate::entry::OfRequest;
+use crate::entry::{Change, OfRequest, Test};
 use interface::{Event, Refusal, Request};
 use std::alloc::{AllocError, Global};
 use std::collections::VecDeque;
@@ -82,13 +82,12 @@ impl<E: OfRequest + Copy> Holder<E> {
     }
 
     // Changes each entry. There are 32 at most.
-    pub fn update<F: Fn(E) -> E>(&mut self, change: F)
-        requires { F.IsAlwaysCallable change }
+    pub fn update<C: Change<E>>(&mut self, change: &C)
         ensures few { length self.old.entries ≤ 32 }
-        ensures after { (f : E → E) → Computes F.Fn f change → self.new ≡ updated f self.old }
+        ensures after { self.new ≡ updated (C.changed change.now) self.old }
     {
         for e in self.entries.iter_mut() {
-            *e = change(*e);
+            *e = change.changed(*e);
         }
     }
 
@@ -102,9 +101,8 @@ impl<E: OfRequest + Copy> Holder<E> {
     }
 
     // Makes the Done of each entry ready that passes a test, while there is room.
-    pub fn add_dones<F: Fn(E) -> bool>(&mut self, test: F)
-        requires { F.IsAlwaysCallable test }
-        ensures { (p : E → Bool) → Computes F.Fn p test → self.new ≡ with_dones E.request p self.old }
+    pub fn add_dones<T: Test<E>>(&mut self, test: &T)
+        ensures { self.new ≡ with_dones E.request (T.passes test.now) self.old }
     {
         add_dones(&self.entries, test, &mut self.events);
     }
@@ -182,18 +180,17 @@ fn add(events: &mut VecDeque<Event>, event: Event)
 }
 
 // Adds the Done of each entry that passes a test.
-fn add_dones<E: OfRequest + Copy, F: Fn(E) -> bool>(
+fn add_dones<E: OfRequest + Copy, T: Test<E>>(
     entries: &[E],
-    test: F,
+    test: &T,
     events: &mut VecDeque<Event>,
 )
-    requires callable { F.IsAlwaysCallable test }
-    requires room { 64 ≤ deque_capacity events.old }
-    ensures items { (p : E → Bool) → Computes F.Fn p test → events.new.items ≡ all_added (dones_of (slot_by E.request) p entries.now) events.old.items }
+    requires { 64 ≤ deque_capacity events.old }
+    ensures items { events.new.items ≡ all_added (dones_of (slot_by E.request) (T.passes test.now) entries.now) events.old.items }
     ensures capacity { deque_capacity events.new ≡ deque_capacity events.old }
 {
     for e in entries {
-        if test(*e) {
+        if test.passes(*e) {
             add(events, Event::Done(e.request().slot));
         }
     }

@@ -4,5 +4,5 @@
 mod entry;
 mod holder;
 
-pub use entry::OfRequest;
+pub use entry::{Change, OfRequest, Test};
 pub use holder::Holder;

@@ -2,7 +2,7 @@
 ghost use Rattle.std.specs.Prelude.{◌≡◌, List, [], ◌∷◌};
 ghost use Rattle.layer.specs.Entries.{request_of, new_entry, updated, advanced, is_due};
 
-use holder::OfRequest;
+use holder::{Change, OfRequest, Test};
 use interface::{Event, Request};
 
 #[derive(Clone, Copy)]
@@ -21,6 +21,44 @@ impl OfRequest for Entry {
 
     fn request(&self) -> Request {
         self.request
+    }
+}
+
+// An event came from below.
+#[derive(Clone, Copy)]
+pub(crate) struct Received(pub Event);
+
+impl Change<Entry> for Received {
+    ghost changed = { λ r. updated (r.0 ∷ []) };
+
+    fn changed(&self, entry: Entry) -> Entry {
+        entry.updated(self.0)
+    }
+}
+
+// A step passed.
+#[derive(Clone, Copy)]
+pub(crate) struct Step;
+
+impl Change<Entry> for Step {
+    ghost changed = { λ _. advanced };
+
+    fn changed(&self, entry: Entry) -> Entry {
+        entry.advanced()
+    }
+}
+
+// Done below, and taken at least `delay` steps ago.
+#[derive(Clone, Copy)]
+pub(crate) struct Due {
+    pub delay: u16,
+}
+
+impl Test<Entry> for Due {
+    ghost passes = { λ d. is_due d.delay };
+
+    fn passes(&self, entry: Entry) -> bool {
+        entry.is_due(self.delay)
     }
 }
 

@@ -5,7 +5,7 @@ ghost use Rattle.interface.specs.Emptied.{emptied};
 ghost use Rattle.layer.specs.Forwards.{forwards};
 ghost use Rattle.layer.specs.Contents.{empty, admission, admitted, gathered, all_advanced, released, collected};
 
-use crate::entry::Entry;
+use crate::entry::{Due, Entry, Received, Step};
 use crate::forward::Forward;
 use holder::Holder;
 use interface::{Controller, Event, Refusal, Request};
@@ -66,7 +66,7 @@ impl Table {
         ensures after { self.new ≡ gathered (forwards forward) (C.meaning.ready (C.state below.old)) self.old }
     {
         while let Some(event) = below.collect() {
-            self.holder.update(|e| e.updated(event));
+            self.holder.update(&Received(event));
             if forward.forwards(event) {
                 self.holder.add(event);
             }
@@ -77,14 +77,14 @@ impl Table {
     pub fn advance(&mut self)
         ensures { self.new ≡ all_advanced self.old }
     {
-        self.holder.update(|e| e.advanced());
+        self.holder.update(&Step);
     }
 
     // Makes the Done ready of each request that is done below and was taken at least `delay` steps ago.
     pub fn release(&mut self, delay: u16)
         ensures { self.new ≡ released delay self.old }
     {
-        self.holder.add_dones(|e| e.is_due(delay));
+        self.holder.add_dones(&Due { delay });
     }
 
     // Hands out the first event. A Done ends the holding of its slot.

@@ -1,7 +1,6 @@
-use Rattle.std.proofs.Common.{[], ◌∷◌, sym, ap, ◌∙◌, rules}
+use Rattle.std.proofs.Common.{[], ◌∷◌, sym, ap, ◌∙◌}
 use Rattle.interface.specs.Emptied.{emptied}
 use Rattle.interface.proofs.Emptying.{turn_ready, turn_emptied, last_after, first_none}
-use Rattle.layer.specs.Entries.{updated}
 use Rattle.layer.specs.Forwards.{forwards}
 use Rattle.layer.specs.Contents.{contents_of, gathered}
 use Rattle.layer.proofs.Tables.{handed_on, kept_back, gathered_none}
@@ -19,8 +18,7 @@ loop-event-preserved-then-forwards g c =
     let h = c.loop-event.self-inside.holder in (
       turn_emptied m.meaning l s t e some went ∙ c.loop-event.invariant.0,
       let f = forwards c.args.forward in
-          let new = c.update.ensures.after (updated (e ∷ [])) (λ x y q. search rules) in
-          handed_on f e (m.meaning.ready t) h c.update.new.self c.add.new.self (sym c.forwards.ensures ∙ c.if-forwards.true) new c.add.ensures
+          handed_on f e (m.meaning.ready t) h c.update.new.self c.add.new.self (sym c.forwards.ensures ∙ c.if-forwards.true) c.update.ensures.after c.add.ensures
           ∙ ap (λ es. gathered f es (contents_of h)) (sym (turn_ready m.meaning l s t e some went)) ∙ c.loop-event.invariant.1,
     )
 
@@ -36,8 +34,7 @@ loop-event-preserved g c =
     let h = c.loop-event.self-inside.holder in (
       turn_emptied m.meaning l s t e some went ∙ c.loop-event.invariant.0,
       let f = forwards c.args.forward in
-          let new = c.update.ensures.after (updated (e ∷ [])) (λ x y q. search rules) in
-          kept_back f e (m.meaning.ready t) h c.update.new.self (sym c.forwards.ensures ∙ c.if-forwards.false) new
+          kept_back f e (m.meaning.ready t) h c.update.new.self (sym c.forwards.ensures ∙ c.if-forwards.false) c.update.ensures.after
           ∙ ap (λ es. gathered f es (contents_of h)) (sym (turn_ready m.meaning l s t e some went)) ∙ c.loop-event.invariant.1,
     )
 
