@@ -6,3 +6,4 @@ pub mod Places
 pub mod Checks
 pub mod Attained
 pub mod Lasts
+pub mod Few

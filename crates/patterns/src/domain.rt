@@ -1,5 +1,5 @@
 // The lanes of one domain.
-ghost use Rattle.std.specs.Prelude.{◌≡◌, [], map, length, IfOk};
+ghost use Rattle.std.specs.Prelude.{◌≡◌, ◌≤◌, [], map, length, IfOk};
 ghost use Rattle.patterns.specs.Shape.{refused, lane_refusal};
 ghost use Rattle.patterns.specs.Lanes.{advanced, renewed, started, changed};
 ghost use Rattle.patterns.specs.Tables.{with_lane};
@@ -56,6 +56,7 @@ impl DomainLanes {
     pub(crate) fn add(&mut self, lane: LaneSetting, free: usize) -> Result<(), LaneRefusal>
         ensures answer { refused result ≡ lane_refusal (length self.old) free lane.entry.vertices.now lane.entry.edges.now lane.entry.rest }
         ensures after { self.new ≡ with_lane free lane.entry.vertices.now lane.entry.edges.now lane.entry.rest self.old }
+        ensures few { length self.new ≤ 8 }
     {
         check_lane(self.lanes.len(), free, lane)?;
         if let Some(mut chosen) = self.spare.pop() {
@@ -67,7 +68,8 @@ impl DomainLanes {
 
     // An event moves one vertex on; a lane that is not there is left alone.
     pub(crate) fn advance(&mut self, number: usize, vertex: usize, event: VertexEvent)
-        ensures { self.new ≡ changed (advanced event vertex) self.old number }
+        ensures value { self.new ≡ changed (advanced event vertex) self.old number }
+        ensures few { length self.new ≤ 8 }
     {
         if let Some(lane) = self.lanes.get_mut(number) {
             lane.advance(vertex, event);

@@ -9,6 +9,6 @@ pub returns : goal.returns
 returns c =
     let move : List LaneView → List LaneView = λ ls. changed (advanced c.args.event c.args.vertex) ls c.args.number in
     rw (← c.self.view_is) (elim c.match-get_mut.branch [
-      | in-Some w ↦ ap the_view w.self-inside-is ∙ placed move c.self.inside.domains.items c.args.domain _ _ w.in-Some.ensures.value w.advance.ensures
+      | in-Some w ↦ ap the_view w.self-inside-is ∙ placed move c.self.inside.domains.items c.args.domain _ _ w.in-Some.ensures.value w.advance.ensures.value
       | in_default w ↦ ap the_view w.self-inside-is ∙ changed_past move c.self.inside.domains.items c.args.domain (search rules)
     ])
