@@ -3,3 +3,4 @@ pub mod Scanning
 pub mod Filling
 pub mod Endings
 pub mod Spelling
+pub mod Numbers

@@ -1,11 +1,12 @@
 -- The faults of a text, each with its number, byte and layer.
-use Rattle.std.specs.Prelude.{◌≡◌, ℕ}
+use Rattle.std.specs.Prelude.{◌≡◌, ℕ, List, codes, cond, Ok, Err, Result, ◌==◌}
 use Rattle.tokens.specs.declared.lexer.Fault as tokens
 use Rattle.tokens.specs.declared.lexer.Fault.TheVariants as token
 use Rattle.tokens.specs.Lexemes.{fault_number, fault_place}
 use Rattle.forms.specs.declared.faults.Fault.{Fault}
 use Rattle.forms.specs.declared.faults.FaultKind.{FaultKind}
 use Rattle.forms.specs.declared.faults.FaultKind.TheVariants.{WrongPhase, DomainTaken, BadShare, BadCount, VertexBank, BadEdge, NoPlaces, UnknownByte, BadNumber, BadForm, TooLong}
+use Rattle.forms.specs.declared.faults.UnknownNumber.{UnknownNumber}
 use Rattle.forms.specs.declared.faults.Layer.TheVariants.{Token, Form}
 
 abbrev pub kind_number : FaultKind → ℕ
@@ -20,6 +21,33 @@ kind_number UnknownByte = 22
 kind_number BadNumber = 23
 kind_number BadForm = 24
 kind_number TooLong = 25
+
+abbrev pub unknown : ℕ → UnknownNumber
+unknown n = record { 0 = n }
+
+-- the kind that has a number, if one has it
+abbrev pub kind_of : ℕ → Result FaultKind UnknownNumber
+kind_of n =
+    cond (n == 1) (Ok WrongPhase)
+    (cond (n == 2) (Ok DomainTaken)
+    (cond (n == 3) (Ok BadShare)
+    (cond (n == 4) (Ok BadCount)
+    (cond (n == 5) (Ok VertexBank)
+    (cond (n == 6) (Ok BadEdge)
+    (cond (n == 7) (Ok NoPlaces)
+    (cond (n == 22) (Ok UnknownByte)
+    (cond (n == 23) (Ok BadNumber)
+    (cond (n == 24) (Ok BadForm)
+    (cond (n == 25) (Ok TooLong) (Err (unknown n))))))))))))
+
+-- what is printed of a number that no kind has
+abbrev pub unknown_text : List ℕ
+unknown_text = codes "a number that no kind of fault has"
+
+-- a kind that is made of a number has that number, and each kind is made of its own
+pub record NumbersNameKinds : Type 0 where
+  pub named : (n : ℕ) (k : FaultKind) → kind_of n ≡ Ok k → kind_number k ≡ n
+  pub made : (k : FaultKind) → kind_of (kind_number k) ≡ Ok k
 
 -- the number by which a fault is known
 abbrev pub number : Fault → ℕ

@@ -1,7 +1,9 @@
 // The fault of a line: what it is, where it stands, and which layer found it.
-ghost use Rattle.std.specs.Prelude.{◌≡◌};
-ghost use Rattle.forms.specs.Faults.{number, IsTokenFault, form_fault, length_fault};
+ghost use Rattle.std.specs.Prelude.{◌≡◌, Some};
+ghost use Rattle.forms.specs.Faults.{kind_of, unknown_text, number, NumbersNameKinds, IsTokenFault, form_fault, length_fault};
 
+use std::error::Error;
+use std::fmt;
 use tokens::Fault as TokenFault;
 
 // The most bytes that a text may have.
@@ -36,6 +38,44 @@ pub enum FaultKind {
     TooLong = 25,
 }
 
+// A number that no kind of fault has.
+#[derive(Clone, Copy, PartialEq, Eq, Debug)]
+pub struct UnknownNumber(pub u8);
+
+// The kind that has the number, as that of a setting call's refusal.
+impl TryFrom<u8> for FaultKind {
+    type Error = UnknownNumber;
+
+    ghost try_from_gives = { λ number res. res ≡ kind_of number };
+
+    fn try_from(number: u8) -> Result<FaultKind, UnknownNumber> {
+        match number {
+            1 => Ok(FaultKind::WrongPhase),
+            2 => Ok(FaultKind::DomainTaken),
+            3 => Ok(FaultKind::BadShare),
+            4 => Ok(FaultKind::BadCount),
+            5 => Ok(FaultKind::VertexBank),
+            6 => Ok(FaultKind::BadEdge),
+            7 => Ok(FaultKind::NoPlaces),
+            22 => Ok(FaultKind::UnknownByte),
+            23 => Ok(FaultKind::BadNumber),
+            24 => Ok(FaultKind::BadForm),
+            25 => Ok(FaultKind::TooLong),
+            _ => Err(UnknownNumber(number)),
+        }
+    }
+}
+
+impl fmt::Display for UnknownNumber {
+    ghost output = { λ _. Some unknown_text };
+
+    fn fmt<W: fmt::Write>(&self, f: &mut fmt::Formatter<W>) -> fmt::Result {
+        f.write_str("a number that no kind of fault has")
+    }
+}
+
+impl Error for UnknownNumber {}
+
 #[derive(Clone, Copy, PartialEq, Eq, Debug)]
 pub struct Fault {
     pub kind: FaultKind,
@@ -45,8 +85,11 @@ pub struct Fault {
 }
 
 impl Fault {
+    // A kind is made of its number, and of no other.
+    #[tactic(auto, using(crate::proofs::Numbers::numbers_name_kinds))]
     pub fn number(self) -> u8
-        ensures { result ≡ number self }
+        ensures value { result ≡ number self }
+        ensures law { NumbersNameKinds }
     {
         self.kind as u8
     }

@@ -10,7 +10,7 @@ mod reader;
 mod signs;
 mod values;
 
-pub use faults::{Fault, FaultKind, Layer};
+pub use faults::{Fault, FaultKind, Layer, UnknownNumber};
 pub use patterns::setting::{EdgeSetting, VertexSetting};
 pub use reader::{ReadError, Reader};
 pub use values::{Form, Lane, Policy, Share, Submission};

@@ -13,7 +13,7 @@ pub returns-in_err-tick-clause-after : goal.returns-in_err-tick-clause-after
 returns-in_err-tick-clause-after c = λ places. let none : None ≡ tick_number c.args.number = search rules in refused_view c.args.self.now places (first c.args.number) _ (first_refused c.args.self.now places c.args.number none)
 
 pub invariant_of-self : goal.invariant_of-self
-invariant_of-self c = (first_known (the_view c.self.inside) c.self.inside.used c.self.invariant.0 c.in_ok-tick.tick.number, c.self.invariant.1)
+invariant_of-self c = (first_known (the_view c.self.inside) c.self.inside.used c.self.invariant.0 _, c.self.invariant.1)
 
 pub returns-clause-answer : goal.returns-clause-answer
 returns-clause-answer c = λ places.
