@@ -38,16 +38,16 @@ take_is span h g q e new after =
 -- ---- a step
 
 -- there is room for its Dones
-pub pass_is : (h : Holding Entry) → length h.entries ≤ 32 → not (is_empty h.events) ≡ false → rows_of (with_dones request_of expired (updated later h)) ≡ accepted (busy (rows_of h)) (passed (rows_of h)) (rows_of h)
+pub pass_is : (h : Holding Entry) → length h.entries ≤ 32 → not (is_empty h.events) ≡ false → rows_of (with_dones 33 request_of expired (updated later h)) ≡ accepted (busy (rows_of h)) (passed (rows_of h)) (rows_of h)
 pass_is h few none = go h.events refl none
   where
-    go : (evs : List _) → h.events ≡ evs → not (is_empty evs) ≡ false → rows_of (with_dones request_of expired (updated later h)) ≡ accepted (busy (rows_of h)) (passed (rows_of h)) (rows_of h)
+    go : (evs : List _) → h.events ≡ evs → not (is_empty evs) ≡ false → rows_of (with_dones 33 request_of expired (updated later h)) ≡ accepted (busy (rows_of h)) (passed (rows_of h)) (rows_of h)
     go [] e k =
         let ds = dones (map later h.entries) in
         let most = length_dones (map later h.entries) in
         let same = length-map h.entries later in
         let nothing = ap length e in
-        rows_path _ (passed (rows_of h)) refl (all_added_is ds h.events (omega (arith, most, same, nothing, few)))
+        rows_path _ (passed (rows_of h)) refl (all_added_is 33 ds h.events (omega (arith, most, same, nothing, few)))
         ∙ ap (λ evs. accepted (check (not (is_empty evs)) 20 None) (passed (rows_of h)) (rows_of h)) (sym e)
     go (x ∷ evs) e k = let z : ◌≡◌ {A = ℕ} 0 1 = cc in absurd (omega arith)
 
@@ -89,13 +89,13 @@ issue_found k t i e few p item =
 
 -- the same, as the calls of a holder
 pub issue_is : (k : Request → Bool) (h g : Holding Entry) (i : ℕ) (es : List Entry) (d : Entry) → length h.events ≤ 32 → position (candidate k) h.entries ≡ Some i → es ≡ h.entries
-    → g ≡ with_event (Issue (get_or es i d).request.slot) (replaced i (issued_now (get_or es i d)) h) → rows_of g ≡ issue_oldest k (rows_of h)
+    → g ≡ with_event 33 (Issue (get_or es i d).request.slot) (replaced i (issued_now (get_or es i d)) h) → rows_of g ≡ issue_oldest k (rows_of h)
 issue_is k h g i es d few p same went =
     let e = get_or es i d in
     let f = found_at (candidate k) h.entries i p in
     let item : e ≡ get_or h.entries i e = ap (λ xs. get_or xs i d) same ∙ get_d_any h.entries i d e (omega (arith, f.0, f.1)) in
     ap rows_of went
-    ∙ rows_path _ (record { entries = set h.entries i (issued_now e); events = h.events ++ (Issue e.request.slot ∷ []) }) refl (all_added_is (Issue e.request.slot ∷ []) h.events (omega (arith, few)))
+    ∙ rows_path _ (record { entries = set h.entries i (issued_now e); events = h.events ++ (Issue e.request.slot ∷ []) }) refl (all_added_is 33 (Issue e.request.slot ∷ []) h.events (omega (arith, few)))
     ∙ issue_found k (rows_of h) i e few p item
 
 if_same : (b : Bool) (t : Rows) → cond b t t ≡ t

@@ -14,10 +14,13 @@ use std::marker::Model;
 // How many requests can be held at once.
 const PLACES: u8 = 32;
 
+// How many events are ready at most: a Done of each request, and an Issue.
+const ROOM: usize = 33;
+
 // The requests that a controller holds, at most 32, and the events that are ready.
 #[derive(Drop)]
 pub struct Table {
-    holder: Holder<Entry>,
+    holder: Holder<Entry, ROOM>,
 }
 
 impl Model for Table {

@@ -8,11 +8,11 @@ use Rattle.holder.specs.Holding.{Holding, all_added}
 pub holding_path : {X : Type 0} (a b : Holding X) → a.entries ≡ b.entries → a.events ≡ b.events → a ≡ b
 holding_path a b p q = λ i. record { entries = p i; events = q i }
 
-pub all_added_is : (es out : List Event) → length out + length es ≤ 64 → all_added es out ≡ out ++ es
-all_added_is [] out h = sym (append-nil out)
-all_added_is (e ∷ es) out h =
-    ap (λ b. all_added es (cond b (out ++ (e ∷ [])) out)) (lt-ltb (length out) 64 (omega arith))
-    ∙ all_added_is es (out ++ (e ∷ [])) (simp length-append (omega arith)) ∙ append_assoc out (e ∷ []) es
+pub all_added_is : (room : ℕ) (es out : List Event) → length out + length es ≤ room → all_added room es out ≡ out ++ es
+all_added_is room [] out h = sym (append-nil out)
+all_added_is room (e ∷ es) out h =
+    ap (λ b. all_added room es (cond b (out ++ (e ∷ [])) out)) (lt-ltb (length out) room (omega arith))
+    ∙ all_added_is room es (out ++ (e ∷ [])) (simp length-append (omega arith)) ∙ append_assoc out (e ∷ []) es
 
 length_dones_at : (e : Event) (es : List Event) (b : Bool) (k : ℕ) → length es ≤ k → length (cond b (e ∷ es) es) ≤ suc k
 length_dones_at e es true k h = omega arith

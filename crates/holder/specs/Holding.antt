@@ -27,16 +27,16 @@ admission request places h x =
 abbrev pub admitted : {X : Type 0} → Holding X → X → Holding X
 admitted h x = record { entries = h.entries ++ (x ∷ []); events = h.events }
 
--- an event is added while there is room: a step makes at most an Issue and a Done of each held request ready
-abbrev pub added : Event → List Event → List Event
-added e out = cond (nat_lt (length out) 64) (out ++ (e ∷ [])) out
+-- an event is added while there is room for so many
+abbrev pub added : ℕ → Event → List Event → List Event
+added room e out = cond (nat_lt (length out) room) (out ++ (e ∷ [])) out
 
-abbrev pub all_added : List Event → List Event → List Event
-all_added [] out = out
-all_added (e ∷ es) out = all_added es (added e out)
+abbrev pub all_added : ℕ → List Event → List Event → List Event
+all_added room [] out = out
+all_added room (e ∷ es) out = all_added room es (added room e out)
 
-abbrev pub with_event : {X : Type 0} → Event → Holding X → Holding X
-with_event e h = record { entries = h.entries; events = added e h.events }
+abbrev pub with_event : {X : Type 0} → ℕ → Event → Holding X → Holding X
+with_event room e h = record { entries = h.entries; events = added room e h.events }
 
 -- the request of the slot is held no more
 abbrev pub without_slot : {X : Type 0} → (X → Request) → ℕ → Holding X → Holding X
@@ -52,6 +52,6 @@ updated f h = record { entries = map f h.entries; events = h.events }
 abbrev pub replaced : {X : Type 0} → ℕ → X → Holding X → Holding X
 replaced i x h = record { entries = set h.entries i x; events = h.events }
 
--- a Done for each entry that passes a test, in the order of taking
-abbrev pub with_dones : {X : Type 0} → (X → Request) → (X → Bool) → Holding X → Holding X
-with_dones request p h = record { entries = h.entries; events = all_added (dones_of (slot_by request) p h.entries) h.events }
+-- a Done for each entry that passes a test, in the order of taking, while there is room
+abbrev pub with_dones : {X : Type 0} → ℕ → (X → Request) → (X → Bool) → Holding X → Holding X
+with_dones room request p h = record { entries = h.entries; events = all_added room (dones_of (slot_by request) p h.entries) h.events }

@@ -14,19 +14,16 @@ use std::marker::Model;
 // How many requests a table holds at most.
 const PLACES: u8 = 32;
 
-// How many events it has ready at most: an Issue and a Done of each request.
-const ROOM: usize = 64;
-
-// The entries of the held requests, and the events that are ready.
+// The entries of the held requests, and the events that are ready, of which there are ROOM at most.
 #[derive(Drop)]
-pub struct Holder<E> {
+pub struct Holder<E, const ROOM: usize> {
     // in the order of taking
     entries: Vec<E>,
     // in the order in which they are collected
     events: VecDeque<Event>,
 }
 
-impl<E> Model for Holder<E> {
+impl<E, const ROOM: usize> Model for Holder<E, ROOM> {
     ghost use Rattle.std.specs.Prelude.{◌≤◌, vec_len, vec_capacity};
     ghost use Rattle.std.specs.VecDeque.{deque_capacity};
     ghost use Rattle.holder.specs.Holding.{Holding};
@@ -35,11 +32,11 @@ impl<E> Model for Holder<E> {
 
     ghost view = { λ h. record { entries = h.entries.items; events = h.events.items } };
 
-    ghost invariant = { λ h. record { few : vec_len h.entries ≤ 32; places : 32 ≤ vec_capacity h.entries; room : 64 ≤ deque_capacity h.events } };
+    ghost invariant = { λ h. record { few : vec_len h.entries ≤ 32; places : 32 ≤ vec_capacity h.entries; room : ROOM ≤ deque_capacity h.events } };
 }
 
-impl<E: OfRequest + Copy> Holder<E> {
-    pub fn new(heap: Global) -> Result<Holder<E>, AllocError>
+impl<E: OfRequest + Copy, const ROOM: usize> Holder<E, ROOM> {
+    pub fn new(heap: Global) -> Result<Holder<E, ROOM>, AllocError>
         ensures { IfOk result (λ t. t ≡ nothing) }
     {
         let entries = Vec::with_capacity(heap, usize::from(PLACES))?;
@@ -102,9 +99,9 @@ impl<E: OfRequest + Copy> Holder<E> {
 
     // Makes the Done of each entry ready that passes a test, while there is room.
     pub fn add_dones<T: Test<E>>(&mut self, test: &T)
-        ensures { self.new ≡ with_dones E.request (T.passes test.now) self.old }
+        ensures { self.new ≡ with_dones ROOM E.request (T.passes test.now) self.old }
     {
-        add_dones(&self.entries, test, &mut self.events);
+        add_dones::<E, T, ROOM>(&self.entries, test, &mut self.events);
     }
 
     // Where the slot is held.
@@ -141,9 +138,9 @@ impl<E: OfRequest + Copy> Holder<E> {
 
     // Makes an event ready, while there is room.
     pub fn add(&mut self, event: Event)
-        ensures { self.new ≡ with_event event self.old }
+        ensures { self.new ≡ with_event ROOM event self.old }
     {
-        add(&mut self.events, event);
+        add::<ROOM>(&mut self.events, event);
     }
 
     // The request of the slot is held no more.
@@ -169,9 +166,9 @@ impl<E: OfRequest + Copy> Holder<E> {
 }
 
 // Adds an event, while there is room.
-fn add(events: &mut VecDeque<Event>, event: Event)
-    requires { 64 ≤ deque_capacity events.old }
-    ensures items { events.new.items ≡ added event events.old.items }
+fn add<const ROOM: usize>(events: &mut VecDeque<Event>, event: Event)
+    requires { ROOM ≤ deque_capacity events.old }
+    ensures items { events.new.items ≡ added ROOM event events.old.items }
     ensures capacity { deque_capacity events.new ≡ deque_capacity events.old }
 {
     if events.len() < ROOM {
@@ -180,18 +177,18 @@ fn add(events: &mut VecDeque<Event>, event: Event)
 }
 
 // Adds the Done of each entry that passes a test.
-fn add_dones<E: OfRequest + Copy, T: Test<E>>(
+fn add_dones<E: OfRequest + Copy, T: Test<E>, const ROOM: usize>(
     entries: &[E],
     test: &T,
     events: &mut VecDeque<Event>,
 )
-    requires { 64 ≤ deque_capacity events.old }
-    ensures items { events.new.items ≡ all_added (dones_of (slot_by E.request) (T.passes test.now) entries.now) events.old.items }
+    requires { ROOM ≤ deque_capacity events.old }
+    ensures items { events.new.items ≡ all_added ROOM (dones_of (slot_by E.request) (T.passes test.now) entries.now) events.old.items }
     ensures capacity { deque_capacity events.new ≡ deque_capacity events.old }
 {
     for e in entries {
         if test.passes(*e) {
-            add(events, Event::Done(e.request().slot));
+            add::<ROOM>(events, Event::Done(e.request().slot));
         }
     }
 }

@@ -137,7 +137,7 @@ room_all : (ws : List Entry) → room Way.all ws ≡ length ws + length ws
 room_all [] = refl
 room_all (w ∷ ws) = let k = room_all ws in omega arith
 
--- no more Way.issues come than requests are held
+-- no more Issues come than requests are held
 pub few_issues : (es : List Event) (ws : List Entry) → Apart slot_of_entry ws → EachProper nobody es ws → ((n : ℕ) → any (has n) ws ≡ false → events_of n es ≡ []) → length (forwarded is_issue es) ≤ length ws
 few_issues es ws a r h = let k = count Way.issues es ws a (few_each Way.issues es ws r) h in let j = room_issues ws in omega arith
 

@@ -44,7 +44,7 @@ map_fuse f g h (w ∷ ws) e = ap (λ x. x ∷ map f (map g ws)) (e w) ∙ ap (λ
 
 -- ---- events
 
-forwarded_one : (f : Event → Bool) (e : Event) (es out : List Event) (b : Bool) → all_added (forwarded f es) (all_added (cond b (e ∷ []) []) out) ≡ all_added (cond b (e ∷ forwarded f es) (forwarded f es)) out
+forwarded_one : (f : Event → Bool) (e : Event) (es out : List Event) (b : Bool) → all_added 64 (forwarded f es) (all_added 64 (cond b (e ∷ []) []) out) ≡ all_added 64 (cond b (e ∷ forwarded f es) (forwarded f es)) out
 forwarded_one f e es out true = refl
 forwarded_one f e es out false = refl
 
@@ -58,14 +58,14 @@ pub gathered_none : (f : Event → Bool) (t : Contents) → t ≡ gathered f [] 
 gathered_none f t = contents_path t (gathered f [] t) (map_same (updated []) t.held updated_none) refl
 
 -- an event that is received, by whether it is handed on
-received : (f : Event → Bool) (e : Event) (b : Bool) (es : List Event) (h g : Holding Entry) → f e ≡ b → contents_of g ≡ record { held = map (updated (e ∷ [])) h.entries; events = all_added (cond b (e ∷ []) []) h.events }
+received : (f : Event → Bool) (e : Event) (b : Bool) (es : List Event) (h g : Holding Entry) → f e ≡ b → contents_of g ≡ record { held = map (updated (e ∷ [])) h.entries; events = all_added 64 (cond b (e ∷ []) []) h.events }
     → gathered f es (contents_of g) ≡ gathered f (e ∷ es) (contents_of h)
 received f e b es h g is new =
-    ap (gathered f es) (new ∙ contents_path _ (gathered f (e ∷ []) (contents_of h)) refl (ap (λ v. all_added (cond v (e ∷ []) []) h.events) (sym is)))
+    ap (gathered f es) (new ∙ contents_path _ (gathered f (e ∷ []) (contents_of h)) refl (ap (λ v. all_added 64 (cond v (e ∷ []) []) h.events) (sym is)))
     ∙ gathered_more f e es (contents_of h)
 
-pub handed_on : (f : Event → Bool) (e : Event) (es : List Event) (h g k : Holding Entry) → f e ≡ true → g ≡ changed (updated (e ∷ [])) h → k ≡ with_event e g → gathered f es (contents_of k) ≡ gathered f (e ∷ es) (contents_of h)
-handed_on f e es h g k is new more = received f e true es h k is (ap contents_of (more ∙ ap (with_event e) new))
+pub handed_on : (f : Event → Bool) (e : Event) (es : List Event) (h g k : Holding Entry) → f e ≡ true → g ≡ changed (updated (e ∷ [])) h → k ≡ with_event 64 e g → gathered f es (contents_of k) ≡ gathered f (e ∷ es) (contents_of h)
+handed_on f e es h g k is new more = received f e true es h k is (ap contents_of (more ∙ ap (with_event 64 e) new))
 
 pub kept_back : (f : Event → Bool) (e : Event) (es : List Event) (h g : Holding Entry) → f e ≡ false → g ≡ changed (updated (e ∷ [])) h → gathered f es (contents_of g) ≡ gathered f (e ∷ es) (contents_of h)
 kept_back f e es h g is new = received f e false es h g is (ap contents_of new)

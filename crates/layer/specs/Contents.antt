@@ -32,9 +32,9 @@ admission places t q =
 abbrev pub admitted : Contents → Request → Contents
 admitted t q = record { held = t.held ++ (new_entry q ∷ []); events = t.events }
 
--- the table after the events es came from below
+-- the table after the events es came from below; it has room for 64 events, an Issue and a Done of each held request
 abbrev pub gathered : (Event → Bool) → List Event → Contents → Contents
-gathered f es t = record { held = map (updated es) t.held; events = all_added (forwarded f es) t.events }
+gathered f es t = record { held = map (updated es) t.held; events = all_added 64 (forwarded f es) t.events }
 
 -- the table after a step has passed for each held request
 abbrev pub all_advanced : Contents → Contents
@@ -46,7 +46,7 @@ dones_due delay = dones_of slot_of_entry (is_due delay)
 
 -- the table after the Dones that are due were made ready
 abbrev pub released : ℕ → Contents → Contents
-released delay t = record { held = t.held; events = all_added (dones_due delay t.held) t.events }
+released delay t = record { held = t.held; events = all_added 64 (dones_due delay t.held) t.events }
 
 abbrev pub without_slot : ℕ → Contents → Contents
 without_slot n t = record { held = dropped slot_of_entry n t.held; events = t.events }

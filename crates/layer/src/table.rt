@@ -12,9 +12,12 @@ use interface::{Controller, Event, Refusal, Request};
 use std::alloc::{AllocError, Global};
 use std::marker::Model;
 
+// How many events are ready at most: an Issue and a Done of each request.
+const ROOM: usize = 64;
+
 #[derive(Drop)]
 pub struct Table {
-    holder: Holder<Entry>,
+    holder: Holder<Entry, ROOM>,
 }
 
 impl Model for Table {

@@ -142,10 +142,10 @@ module _ (r : Meaning (List ℕ)) (l : Lawful r) (short : (s : List ℕ) → r.s
       let f = g.few in
       state_path ((meaning_over r).stepped s) (tidy s) refl
       (contents_path ((meaning_over r).stepped s).table (tidy s).table fuse
-      (ap (λ o. all_added (dones_due (wait s) us) (all_added (forwarded is_issue es) o)) e
-      ∙ ap (λ x. all_added (dones_due (wait s) x) (all_added (forwarded is_issue es) [])) fuse
-      ∙ ap (all_added (dones_due (wait s) vs)) (all_added_is (forwarded is_issue es) [] (omega arith))
-      ∙ all_added_is (dones_due (wait s) vs) (forwarded is_issue es) (omega arith)))
+      (ap (λ o. all_added 64 (dones_due (wait s) us) (all_added 64 (forwarded is_issue es) o)) e
+      ∙ ap (λ x. all_added 64 (dones_due (wait s) x) (all_added 64 (forwarded is_issue es) [])) fuse
+      ∙ ap (all_added 64 (dones_due (wait s) vs)) (all_added_is 64 (forwarded is_issue es) [] (omega arith))
+      ∙ all_added_is 64 (dones_due (wait s) vs) (forwarded is_issue es) (omega arith)))
       refl
 
   pub good_tidy : (s : State) → Good r s → Good r (tidy s)

@@ -157,11 +157,11 @@ module _ (m n : Meaning (List ℕ)) (k : Lawful m) (l : Lawful n) (short : (s : 
       state_path (r.stepped s) (tidy s)
       (contents_path (r.stepped s).table (tidy s).table
       (ap (map advanced) (map_fuse (updated ds) (updated es) (updated (es ++ ds)) ws (updated_append es ds)) ∙ map_fuse advanced (updated (es ++ ds)) (moved (es ++ ds)) ws (λ w. refl))
-      (ap (λ o. all_added (forwarded everything ds) (all_added (forwarded everything es) o)) e
-      ∙ ap (λ x. all_added x (all_added (forwarded everything es) [])) (forwarded_all ds)
-      ∙ ap (λ x. all_added ds (all_added x [])) (forwarded_all es)
-      ∙ ap (all_added ds) (all_added_is es [] (omega arith))
-      ∙ all_added_is ds es (omega arith)))
+      (ap (λ o. all_added 64 (forwarded everything ds) (all_added 64 (forwarded everything es) o)) e
+      ∙ ap (λ x. all_added 64 x (all_added 64 (forwarded everything es) [])) (forwarded_all ds)
+      ∙ ap (λ x. all_added 64 ds (all_added 64 x [])) (forwarded_all es)
+      ∙ ap (all_added 64 ds) (all_added_is 64 es [] (omega arith))
+      ∙ all_added_is 64 ds es (omega arith)))
       refl refl
 
   proper_tidy : (s : State) → Good m n s → (p i : ℕ) → Proper (standing i (map (reading p) s.table.held)) (events_of i (of_both s))

@@ -19,23 +19,23 @@ loop-e-preserved g c =
     let i = c.loop-e.e-index in
     elim c.if-passes.branch [
       | then-passes w ↦
-        let q = sym (ap p c.e-item.is) ∙ sym c.passes.ensures ∙ w.if-passes.true in
-        let slot = ap (λ (r : Request). r.slot) w.request.ensures ∙ ap key c.e-item.is in
-        let here = dones_here key p [] _ es i c.e-item.result c.loop-e-test.true q refl in (
-          ap (λ v. all_added (dones_of key p (drop (i + 1) es)) (deque_items v)) w.events-is
-          ∙ ap (all_added (dones_of key p (drop (i + 1) es))) w.add.ensures.items
-          ∙ ap (λ n. all_added (dones_of key p (drop (i + 1) es)) (added (Done n) (deque_items c.loop-e.events))) slot
-          ∙ ap (λ ds. all_added ds (deque_items c.loop-e.events)) here
-          ∙ c.loop-e.invariant.0,
-          ap deque_capacity w.events-is ∙ w.add.ensures.capacity ∙ c.loop-e.invariant.1,
-        )
+          let q = sym (ap p c.e-item.is) ∙ sym c.passes.ensures ∙ w.if-passes.true in
+          let slot = ap (λ (r : Request). r.slot) w.request.ensures ∙ ap key c.e-item.is in
+          let here = dones_here key p [] _ es i c.e-item.result c.loop-e-test.true q refl in (
+            ap (λ v. all_added g.row.ROOM (dones_of key p (drop (i + 1) es)) (deque_items v)) w.events-is
+                ∙ ap (all_added g.row.ROOM (dones_of key p (drop (i + 1) es))) w.add.ensures.items
+                ∙ ap (λ n. all_added g.row.ROOM (dones_of key p (drop (i + 1) es)) (added g.row.ROOM (Done n) (deque_items c.loop-e.events))) slot
+                ∙ ap (λ ds. all_added g.row.ROOM ds (deque_items c.loop-e.events)) here
+                ∙ c.loop-e.invariant.0,
+            ap deque_capacity w.events-is ∙ w.add.ensures.capacity ∙ c.loop-e.invariant.1,
+          )
       | else-passes w ↦
-        let q = sym (ap p c.e-item.is) ∙ sym c.passes.ensures ∙ w.if-passes.false in (
-          ap (λ v. all_added (dones_of key p (drop (i + 1) es)) (deque_items v)) w.events-is
-          ∙ ap (λ ds. all_added ds (deque_items c.loop-e.events)) (dones_not key p es i c.e-item.result c.loop-e-test.true q)
-          ∙ c.loop-e.invariant.0,
-          ap deque_capacity w.events-is ∙ c.loop-e.invariant.1,
-        )
+          let q = sym (ap p c.e-item.is) ∙ sym c.passes.ensures ∙ w.if-passes.false in (
+            ap (λ v. all_added g.row.ROOM (dones_of key p (drop (i + 1) es)) (deque_items v)) w.events-is
+                ∙ ap (λ ds. all_added g.row.ROOM ds (deque_items c.loop-e.events)) (dones_not key p es i c.e-item.result c.loop-e-test.true q)
+                ∙ c.loop-e.invariant.0,
+            ap deque_capacity w.events-is ∙ c.loop-e.invariant.1,
+          )
     ]
 
 pub returns : goal.returns
@@ -44,6 +44,6 @@ returns g c =
     let p = g.T.Test.passes c.args.test.now in
     let end = dones_end key p [] c.args.entries.now c.loop-e.e-index c.loop-e-test.false in
     record {
-      items = ap (λ es. all_added es (deque_items c.loop-e.events)) (sym end) ∙ c.loop-e.invariant.0;
+      items = ap (λ es. all_added g.row.ROOM es (deque_items c.loop-e.events)) (sym end) ∙ c.loop-e.invariant.0;
       capacity = c.loop-e.invariant.1;
     }

@@ -1,4 +1,4 @@
-use Rattle.std.proofs.Common.{[], ◌∷◌, sym, ap, ◌∙◌}
+use Rattle.std.proofs.Common.{sym, ap, ◌∙◌}
 use Rattle.interface.specs.Emptied.{emptied}
 use Rattle.interface.proofs.Emptying.{turn_ready, turn_emptied, last_after, first_none}
 use Rattle.layer.specs.Forwards.{forwards}
